@@ -1,0 +1,47 @@
+-- The arms in order: first that each knows its variant, then that it gives the number of its operation.
+use borrow.Author.Needs.{needs}
+use Rattle.instruction.specs.Operations.{numberOf}
+use Rattle.instruction.proofs.number.internal_number.Statement.{statement}
+use Rattle.instruction.proofs.number.internal_number.Tie as tie
+
+pub internal-number-spec : {M : Type 1} → statement M
+unfolding numberOf
+internal-number-spec =
+    tie.close
+    (tie.spec
+    (search needs)
+    (search needs)
+    (search needs)
+    (search needs)
+    (search needs)
+    (search needs)
+    (search needs)
+    (search needs)
+    (search needs)
+    (search needs)
+    (search needs)
+    (search needs)
+    (search needs)
+    (search needs)
+    (search needs)
+    (search needs)
+    (search needs)
+    (search needs)
+    (λ c. rw (c .enum-told .given .1))
+    (λ c. rw (c .enum-told2 .given .1))
+    (λ c. rw (c .enum-told3 .given .1))
+    (λ c. rw (c .enum-told4 .given .1))
+    (λ c. rw (c .enum-told5 .given .1))
+    (λ c. rw (c .enum-told6 .given .1))
+    (λ c. rw (c .enum-told7 .given .1))
+    (λ c. rw (c .enum-told8 .given .1))
+    (λ c. rw (c .enum-told9 .given .1))
+    (λ c. rw (c .enum-told10 .given .1))
+    (λ c. rw (c .enum-told11 .given .1))
+    (λ c. rw (c .enum-told12 .given .1))
+    (λ c. rw (c .enum-told13 .given .1))
+    (λ c. rw (c .enum-told14 .given .1))
+    (λ c. rw (c .enum-told15 .given .1))
+    (λ c. rw (c .enum-told16 .given .1))
+    (λ c. rw (c .enum-told17 .given .1))
+    (λ c. rw (c .enum-told18 .given .1)))

@@ -1,0 +1,75 @@
+-- The addressing modes (manual, chapters 4 to 6). Operand bytes follow the opcode, from FFFF on to 0000.
+use Prim.Native.Nat.{ℕ, _+_}
+use mathlib.Core.Bool.{false, not}
+use lib.Dec.{eqb}
+use Rattle.registers.specs.declared.Registers.{Registers}
+use Rattle.instruction.specs.declared.AddressingMode.{AddressingMode}
+use Rattle.instruction.specs.declared.AddressingMode.the-variants.{Accumulator, Implied, Immediate, ZeroPage, ZeroPageX, ZeroPageY, Relative, Absolute, AbsoluteX, AbsoluteY, BuggyIndirect, IndexedIndirectX, IndirectIndexedY}
+use Rattle.manual.specs.declared.Target.{Target}
+use Rattle.manual.specs.Micro.{Micro, done, _>>=_, byte}
+use Rattle.manual.specs.Words.{low, address, page, joined}
+use Rattle.manual.specs.Branching.{branchTarget}
+
+-- the place k bytes after the opcode
+abbrev pub operand : Registers → ℕ → ℕ
+operand r k = address (r .counter + k)
+
+-- two bytes joined to an address, the low one first
+abbrev pub word : ℕ → ℕ → Micro ℕ
+word p q = do
+  l ← byte p
+  h ← byte q
+  done (joined h l)
+
+-- a pointer's second byte lies in the page of its first: the zero page, or the page that JMP names
+abbrev pub pointer : ℕ → ℕ → Micro ℕ
+pointer high b = word (joined high b) (joined high (low (b + 1)))
+
+abbrev pub plain : ℕ → Target
+plain p = record { address = p; crossed = false }
+
+-- a page is crossed where the high bytes differ: of base and sum, or of the advanced counter and the branch's target
+abbrev pub landing : ℕ → ℕ → Target
+landing base p = record { address = p; crossed = not (eqb (page base) (page p)) }
+
+abbrev pub indexed : ℕ → ℕ → Target
+indexed base index = landing base (address (base + index))
+
+-- where each mode leads (the accumulator and implied forms lead nowhere: 0000, and no instruction asks)
+unfoldable pub target : AddressingMode → Registers → Micro Target
+target Accumulator r = done (plain 0)
+target Implied r = done (plain 0)
+target Immediate r = done (plain (operand r 1))
+target ZeroPage r = do
+  b ← byte (operand r 1)
+  done (plain (joined 0 b))
+target ZeroPageX r = do
+  b ← byte (operand r 1)
+  done (plain (joined 0 (low (b + r .x))))
+target ZeroPageY r = do
+  b ← byte (operand r 1)
+  done (plain (joined 0 (low (b + r .y))))
+target Relative r = do
+  offset ← byte (operand r 1)
+  done (landing (operand r 2) (branchTarget (operand r 2) offset))
+target Absolute r = do
+  w ← word (operand r 1) (operand r 2)
+  done (plain w)
+target AbsoluteX r = do
+  w ← word (operand r 1) (operand r 2)
+  done (indexed w (r .x))
+target AbsoluteY r = do
+  w ← word (operand r 1) (operand r 2)
+  done (indexed w (r .y))
+target BuggyIndirect r = do
+  w ← word (operand r 1) (operand r 2)
+  goal ← pointer (page w) (low w)
+  done (plain goal)
+target IndexedIndirectX r = do
+  b ← byte (operand r 1)
+  w ← pointer 0 (low (b + r .x))
+  done (plain w)
+target IndirectIndexedY r = do
+  b ← byte (operand r 1)
+  w ← pointer 0 b
+  done (indexed w (r .y))

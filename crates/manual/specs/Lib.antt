@@ -1,0 +1,14 @@
+pub mod Micro
+pub mod Words
+pub mod Arithmetic
+pub mod Decimal
+pub mod Flags
+pub mod Branching
+pub mod Addressing
+pub mod IndexRegisters
+pub mod Stack
+pub mod Shifting
+pub mod Instructions
+pub mod Stepping
+pub mod ReadList
+pub mod Theorems

@@ -1,0 +1,50 @@
+-- The language of the definition: a program over the memory. It is done with a value, or it reads the byte at an address and goes on by
+-- what it was, or it stores a byte at an address and goes on. Reads and stores happen in the order in which they are written.
+use Prim.Native.Nat.{ℕ}
+use mathlib.Core.Path.{_≡_}
+use mathlib.Core.List.{List, [], _∷_}
+use lib.ListN.{getD, set}
+
+infixl 20 _>>=_
+infixl 20 _>>_
+pub data Micro (A : Type 0) : Type 0 where
+  done : A → Micro A
+  read : ℕ → (ℕ → Micro A) → Micro A
+  write : ℕ → ℕ → Micro A → Micro A
+
+-- what a program gives on a memory, and the memory that it leaves
+abbrev pub exec : {A : Type 0} → Micro A → List ℕ → A × List ℕ
+exec (done a) m = (a, m)
+exec (read p k) m = exec (k (getD m p 0)) m
+exec (write p b k) m = exec k (set m p b)
+
+-- the addresses that it reads, in order
+unfoldable pub reads : {A : Type 0} → Micro A → List ℕ → List ℕ
+reads (done a) m = []
+reads (read p k) m = p ∷ reads (k (getD m p 0)) m
+reads (write p b k) m = reads k (set m p b)
+
+-- the addresses that it stores to, in order
+unfoldable pub stores : {A : Type 0} → Micro A → List ℕ → List ℕ
+stores (done a) m = []
+stores (read p k) m = stores (k (getD m p 0)) m
+stores (write p b k) m = p ∷ stores k (set m p b)
+
+-- one program after another: a `do` block is written with these
+abbrev pub _>>=_ : {A B : Type 0} → Micro A → (A → Micro B) → Micro B
+done a >>= f = f a
+read p k >>= f = read p (λ b. k b >>= f)
+write p b k >>= f = write p b (k >>= f)
+
+abbrev pub _>>_ : {A B : Type 0} → Micro A → Micro B → Micro B
+p >> q = p >>= (λ u. q)
+
+abbrev pub byte : ℕ → Micro ℕ
+byte p = read p done
+
+abbrev pub store : ℕ → ℕ → Micro (Unit {0})
+store p b = write p b (done tt)
+
+-- The form of every promise that touches memory: on the memory m the program p gives a and leaves m′.
+abbrev pub Gives : {A : Type 0} → Micro A → List ℕ → A → List ℕ → Type 0
+Gives p m a m′ = exec p m ≡ (a, m′)

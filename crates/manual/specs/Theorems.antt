@@ -1,0 +1,17 @@
+pub mod Programs
+pub mod OneResult
+pub mod Reads
+pub mod FewReads
+pub mod Stores
+pub mod Sealed
+pub mod StepLaws
+pub mod Answers
+pub mod RunAnswers
+pub mod Edges
+pub mod Within
+pub mod RegistersInRange
+pub mod Ranges
+pub mod IntegerLemmas
+pub mod BinaryArithmetic
+pub mod DecimalDigits
+pub mod Examples

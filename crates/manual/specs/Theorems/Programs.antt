@@ -1,0 +1,64 @@
+-- Laws of programs over the memory that every other theorem uses.
+use Prim.Native.Nat.{ℕ}
+use mathlib.Core.Path.{_≡_, refl, ap, _∙_}
+use mathlib.Core.Bool.{Bool, true, false, cond}
+use mathlib.Core.Logic.{_⊎_, inl, inr}
+use mathlib.Core.List.{List, [], _∷_, _++_}
+use lib.ListN.{getD, set, length, length-set}
+use lib.Seq.{getD-set-other}
+use Rattle.manual.specs.Micro.{Micro, done, read, write, exec, reads, stores, _>>=_, Gives}
+
+infix 30 _∈_
+-- a number stands in a list
+abbrev pub _∈_ : ℕ → List ℕ → Type 0
+a ∈ [] = ⊥
+a ∈ (b ∷ l) = (a ≡ b) ⊎ (a ∈ l)
+
+-- one program after another gives what the second gives on the memory that the first leaves
+pub exec-bind : {A B : Type 0} (p : Micro A) (f : A → Micro B) (m : List ℕ) → exec (p >>= f) m ≡ exec (f (exec p m .0)) (exec p m .1)
+exec-bind (done a) f m = refl
+exec-bind (read q k) f m = exec-bind (k (getD m q 0)) f m
+exec-bind (write q b k) f m = exec-bind k f (set m q b)
+
+-- it reads what the first reads and then what the second reads
+pub reads-bind : {A B : Type 0} (p : Micro A) (f : A → Micro B) (m : List ℕ)
+    → reads (p >>= f) m ≡ reads p m ++ reads (f (exec p m .0)) (exec p m .1)
+unfolding reads
+reads-bind (done a) f m = refl
+reads-bind (read q k) f m = ap (λ (l : List ℕ). q ∷ l) (reads-bind (k (getD m q 0)) f m)
+reads-bind (write q b k) f m = reads-bind k f (set m q b)
+
+-- and it stores to what the first stores to and then what the second stores to
+pub stores-bind : {A B : Type 0} (p : Micro A) (f : A → Micro B) (m : List ℕ)
+    → stores (p >>= f) m ≡ stores p m ++ stores (f (exec p m .0)) (exec p m .1)
+unfolding stores
+stores-bind (done a) f m = refl
+stores-bind (read q k) f m = stores-bind (k (getD m q 0)) f m
+stores-bind (write q b k) f m = ap (λ (l : List ℕ). q ∷ l) (stores-bind k f (set m q b))
+
+-- a program chosen by a test
+pub reads-cond : {A : Type 0} (t : Bool) (p q : Micro A) (m l k : List ℕ) → reads p m ≡ l → reads q m ≡ k → reads (cond t p q) m ≡ cond t l k
+reads-cond true p q m l k e f = e
+reads-cond false p q m l k e f = f
+
+-- what the first part gave is handed on to the second
+pub exec-then : {A B : Type 0} (p : Micro A) (f : A → Micro B) (m : List ℕ) {m′ : List ℕ} {a : A}
+    → Gives p m a m′ → exec (p >>= f) m ≡ exec (f a) m′
+exec-then p f m e = exec-bind p f m ∙ ap (λ (w : _ × List ℕ). exec (f (w .0)) (w .1)) e
+
+pub then : {A B : Type 0} (p : Micro A) (f : A → Micro B) (m : List ℕ) {m′ m″ : List ℕ} {a : A} {b : B}
+    → Gives p m a m′ → Gives (f a) m′ b m″ → Gives (p >>= f) m b m″
+then p f m e g = exec-then p f m e ∙ g
+
+-- a byte that a program does not store to stays
+pub untouched : {A : Type 0} (p : Micro A) (m : List ℕ) (a : ℕ) → (a ∈ stores p m → ⊥) → getD (exec p m .1) a 0 ≡ getD m a 0
+unfolding stores
+untouched (done x) m a f = refl
+untouched (read q k) m a f = untouched (k (getD m q 0)) m a f
+untouched (write q b k) m a f = untouched k (set m q b) a (λ i. f (inr i)) ∙ getD-set-other m q a b 0 (λ e. f (inl e))
+
+-- no program makes the memory longer or shorter
+pub exec-length : {A : Type 0} (p : Micro A) (m : List ℕ) → length (exec p m .1) ≡ length m
+exec-length (done x) m = refl
+exec-length (read q k) m = exec-length (k (getD m q 0)) m
+exec-length (write q b k) m = exec-length k (set m q b) ∙ length-set m q b

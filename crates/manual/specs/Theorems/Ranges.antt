@@ -1,0 +1,218 @@
+-- From registers and bytes in range every step and every run leaves them in range. A step adds at most 7 to the cycle count. (That the
+-- memory stays as long as it was is `exec-length` of Programs.)
+use Prim.Native.Nat.{ℕ, zero, suc, _+_, _*_, _≤_, _<_}
+use mathlib.Core.Path.{_≡_, refl}
+use mathlib.Core.Bool.{Bool, true, false, cond}
+use mathlib.Core.List.{List}
+use native.Mathlib.Omega.{arith}
+use lib.Dec.{eqb, leb, ltb, lit≤}
+use Rattle.registers.specs.declared.Registers.{Registers}
+use Rattle.registers.specs.StatusByte.{pushedByte}
+use Rattle.registers.specs.RoundTrip.{pushed-byte}
+use Rattle.instruction.specs.declared.Instruction.{Instruction}
+use Rattle.instruction.specs.declared.Instruction.the-variants.{Read, Store, Modify, Branch, Internal, BRK, JMP, JSR, PHA, PHP, PLA, PLP, RTI, RTS}
+use Rattle.instruction.specs.declared.ModifyOperation.{ModifyOperation}
+use Rattle.instruction.specs.declared.AddressingMode.{AddressingMode}
+use Rattle.instruction.specs.declared.AddressingMode.the-variants.{Accumulator, Implied, Immediate, ZeroPage, ZeroPageX, ZeroPageY, Relative, Absolute, AbsoluteX, AbsoluteY, BuggyIndirect, IndexedIndirectX, IndirectIndexedY}
+use Rattle.instruction.specs.declared.Entry.{Entry}
+use Rattle.instruction.specs.declared.Decoded.{Decoded}
+use Rattle.instruction.specs.declared.Decoded.the-variants.{Defined, Undefined}
+use Rattle.instruction.specs.Modes.{operandBytes}
+use Rattle.instruction.specs.Opcodes.{decoded}
+use Rattle.instruction.specs.Table.{mostExtra, Ruled, ruled}
+use Rattle.manual.specs.declared.Machine.{Machine}
+use Rattle.manual.specs.declared.Target.{Target}
+use Rattle.manual.specs.declared.Effect.{Effect}
+use Rattle.manual.specs.Micro.{Micro, done, exec}
+use Rattle.manual.specs.Words.{low, address, page}
+use Rattle.manual.specs.Branching.{branchTarget, branched, holds}
+use Rattle.manual.specs.Addressing.{operand, target}
+use Rattle.manual.specs.Stack.{push, pull, pushAddress, pullAddress}
+use Rattle.manual.specs.Instructions.{modify, perform}
+use Rattle.manual.specs.Stepping.{Stepped, Finished, fullMemory, highestCount, highestBound, finished, act, stepFull, step, runFull, run}
+use Rattle.manual.specs.Theorems.Within.{Within, Bytes, within-exec, within-bind, within-weaken}
+use Rattle.manual.specs.Theorems.RegistersInRange.{InRange, in-setA, in-setS, in-setPC, in-setStatus, in-flags, in-past, in-loadA, bit-small, in-taken, in-stored, in-modified, in-modified-flags, in-internal, in-around}
+
+abbrev Aimed : Target → Type 0
+Aimed t = t .address < 65536
+
+target-within : (mode : AddressingMode) (r : Registers) → InRange r → Within Aimed (target mode r)
+unfolding target branchTarget
+target-within Accumulator r h = omega arith
+target-within Implied r h = omega arith
+target-within Immediate r h = omega arith
+target-within ZeroPage r h = (omega arith, λ b l. omega arith)
+target-within ZeroPageX r h = (omega arith, λ b l. omega arith)
+target-within ZeroPageY r h = (omega arith, λ b l. omega arith)
+target-within Relative r h = (omega arith, λ b l. in-around _)
+target-within Absolute r h = (omega arith, λ b l. (omega arith, λ c k. omega arith))
+target-within AbsoluteX r h = (omega arith, λ b l. (omega arith, λ c k. omega arith))
+target-within AbsoluteY r h = (omega arith, λ b l. (omega arith, λ c k. omega arith))
+target-within BuggyIndirect r h = (omega arith, λ b l. (omega arith, λ c k. (omega arith, λ d i. (omega arith, λ e j. omega arith))))
+target-within IndexedIndirectX r h = (omega arith, λ b l. (omega arith, λ c k. (omega arith, λ d i. omega arith)))
+target-within IndirectIndexedY r h = (omega arith, λ b l. (omega arith, λ c k. (omega arith, λ d i. omega arith)))
+
+push-within : (b : ℕ) (r : Registers) → b < 256 → InRange r → Within InRange (push b r)
+unfolding push
+push-within b r l h = (omega (arith, h .stack), l, in-setS r h _ (omega arith))
+
+-- a pulled value below a bound, and registers in range
+abbrev Pulled : ℕ → ℕ × Registers → Type 0
+Pulled bound w = (w .0 < bound) × InRange (w .1)
+
+pull-within : (r : Registers) → InRange r → Within (Pulled 256) (pull r)
+unfolding pull
+pull-within r h = (omega arith, λ b l. (l, in-setS r h _ (omega arith)))
+
+push-address-within : (p : ℕ) (r : Registers) → p < 65536 → InRange r → Within InRange (pushAddress p r)
+unfolding pushAddress
+push-address-within p r l h =
+    within-bind InRange InRange (push (page p) r) _ (push-within (page p) r (omega arith) h) (λ r₁ h₁. push-within (low p) r₁ (omega arith) h₁)
+
+pull-address-within : (r : Registers) → InRange r → Within (Pulled 65536) (pullAddress r)
+unfolding pullAddress
+pull-address-within r h =
+    within-bind (Pulled 256) (Pulled 65536) (pull r) _ (pull-within r h)
+    (λ v hv. within-bind (Pulled 256) (Pulled 65536) (pull (v .1)) _ (pull-within (v .1) (hv .1)) (λ w hw. (omega (arith, hv .0, hw .0), hw .1)))
+
+-- an effect in range, with at most so many extra cycles
+abbrev pub Ranged : ℕ → Effect → Type 0
+Ranged most f = InRange (f .registers) × (f .extra ≤ most)
+
+branched-within : (t : Bool) (a : Target) (r : Registers) → Aimed a → InRange r → Ranged 2 (branched t a r)
+unfolding branched
+branched-within true a r l h = (in-setPC r h _ l, omega (arith, bit-small (a .crossed)))
+branched-within false a r l h = (h, omega arith)
+
+within-cond : {A : Type 0} (Q : A → Type 0) (t : Bool) (p q : Micro A) → Within Q p → Within Q q → Within Q (cond t p q)
+within-cond Q true p q f g = f
+within-cond Q false p q f g = g
+
+modify-within : (k : ModifyOperation) (mode : AddressingMode) (r : Registers) → InRange r → Within (Ranged 0) (modify k mode r)
+unfolding modify
+modify-within k mode r h =
+    within-cond (Ranged 0) (eqb (operandBytes mode) 0) _ _
+    (in-setA _ (in-modified-flags k _ _ (in-past r h mode)) _ (in-modified k _ _ (h .accumulator)), lit≤ tt)
+    (within-bind Aimed (Ranged 0) (target mode r) _ (target-within mode r h)
+    (λ t l. (l, λ b j. (l, in-modified k b _ j, (in-modified-flags k b _ (in-past r h mode), lit≤ tt)))))
+
+perform-within : (i : Instruction) (mode : AddressingMode) (r : Registers) → InRange r → Within (Ranged (mostExtra i)) (perform i mode r)
+unfolding perform
+perform-within (Read k) mode r h =
+    within-bind Aimed (Ranged 1) (target mode r) _ (target-within mode r h)
+    (λ t l. (l, λ b j. (in-taken k b _ (in-past r h mode) j, bit-small (t .crossed))))
+perform-within (Store k) mode r h =
+    within-bind Aimed (Ranged 0) (target mode r) _ (target-within mode r h)
+    (λ t l. (l, in-stored k r h, (in-past r h mode, lit≤ tt)))
+perform-within (Modify k) mode r h = modify-within k mode r h
+perform-within (Branch k) mode r h =
+    within-bind Aimed (Ranged 2) (target mode r) _ (target-within mode r h)
+    (λ t l. branched-within (holds k (r .status)) t _ l (in-past r h mode))
+perform-within (Internal k) mode r h = (in-internal k _ (in-past r h mode), lit≤ tt)
+perform-within JMP mode r h =
+    within-bind Aimed (Ranged 0) (target mode r) _ (target-within mode r h) (λ t l. (in-setPC r h _ l, lit≤ tt))
+perform-within JSR mode r h = (
+  omega arith,
+  λ b l. (
+    omega arith,
+    λ c k.
+        within-bind InRange (Ranged 0) (pushAddress (operand r 2) r) _ (push-address-within _ r (omega arith) h)
+        (λ r₁ h₁. (in-setPC r₁ h₁ _ (omega arith), lit≤ tt)),
+  ),
+)
+perform-within RTS mode r h =
+    within-bind (Pulled 65536) (Ranged 0) (pullAddress r) _ (pull-address-within r h)
+    (λ w hw. (in-setPC (w .1) (hw .1) _ (omega arith), lit≤ tt))
+perform-within PHA mode r h =
+    within-bind InRange (Ranged 0) (push (r .accumulator) r) _ (push-within _ r (h .accumulator) h) (λ r₁ h₁. (in-past r₁ h₁ mode, lit≤ tt))
+perform-within PHP mode r h =
+    within-bind InRange (Ranged 0) (push (pushedByte (r .status)) r) _ (push-within _ r (pushed-byte (r .status)) h)
+    (λ r₁ h₁. (in-past r₁ h₁ mode, lit≤ tt))
+perform-within PLA mode r h =
+    within-bind (Pulled 256) (Ranged 0) (pull r) _ (pull-within r h)
+    (λ w hw. (in-loadA _ (in-past (w .1) (hw .1) mode) _ (hw .0), lit≤ tt))
+perform-within PLP mode r h =
+    within-bind (Pulled 256) (Ranged 0) (pull r) _ (pull-within r h)
+    (λ w hw. (in-setStatus _ (in-past (w .1) (hw .1) mode) _, lit≤ tt))
+perform-within BRK mode r h =
+    within-bind InRange (Ranged 0) (pushAddress (operand r 2) r) _ (push-address-within _ r (omega arith) h)
+    (λ r₁ h₁. within-bind InRange (Ranged 0) (push (pushedByte (r .status)) r₁) _ (push-within _ r₁ (pushed-byte (r .status)) h₁)
+    (λ r₂ h₂. (lit≤ tt, λ b l. (lit≤ tt, λ c k. (in-setPC _ (in-flags r₂ h₂ _) _ (omega arith), lit≤ tt)))))
+perform-within RTI mode r h =
+    within-bind (Pulled 256) (Ranged 0) (pull r) _ (pull-within r h)
+    (λ v hv. within-bind (Pulled 65536) (Ranged 0) (pullAddress (v .1)) _ (pull-address-within (v .1) (hv .1))
+    (λ w hw. (in-setPC _ (in-setStatus (w .1) (hw .1) _) _ (hw .0), lit≤ tt)))
+
+-- ---- a step and a run
+
+-- registers in range, and a cycle count at most so many on from another
+pub record Kept (from most : ℕ) (s : Machine) : Type 0 where
+  pub registers : InRange (s .registers)
+  pub cycles : s .cycles ≤ from + most
+
+-- the cycles that a step may add: 7 where it was made, none where it was refused
+abbrev pub allowance : ℕ → ℕ
+allowance answer = cond (eqb answer 0) 7 0
+
+abbrev pub StepKept : ℕ → Stepped → Type 0
+StepKept from q = Kept from (allowance (q .answer)) (q .machine)
+
+unmoved : (from : ℕ) (s : Machine) → InRange (s .registers) → s .cycles ≤ from → Kept from 0 s
+unmoved from s h l = record { registers = h; cycles = omega arith }
+
+act-within : (d : Decoded) (s : Machine) → InRange (s .registers)
+    → ((e : Entry) → d ≡ Defined e → Ruled e)
+    → Within (StepKept (s .cycles)) (act d s)
+unfolding act
+act-within (Defined e) s h c =
+    within-bind (Ranged (mostExtra (e .instruction))) (StepKept (s .cycles)) (perform (e .instruction) (e .mode) (s .registers)) _
+    (perform-within (e .instruction) (e .mode) (s .registers) h)
+    (λ f l. record { registers = l .0; cycles = omega (arith, l .1, c e refl .total-most) })
+act-within Undefined s h c = unmoved (s .cycles) s h (omega arith)
+
+step-full-within : (s : Machine) → InRange (s .registers) → Within (StepKept (s .cycles)) (stepFull s)
+unfolding stepFull
+step-full-within s h =
+    within-cond _ (ltb highestCount (s .cycles)) _ _
+    (unmoved (s .cycles) s h (omega arith))
+    (h .counter, λ b l. act-within (decoded b) s h (ruled b))
+
+step-within : (size : ℕ) (s : Machine) → InRange (s .registers) → Within (StepKept (s .cycles)) (step size s)
+unfolding step
+step-within size s h = within-cond _ (eqb size fullMemory) _ _ (step-full-within s h) (unmoved (s .cycles) s h (omega arith))
+
+-- A step from registers and bytes in range leaves them in range. It adds at most 7 to the cycle count, and nothing where it is refused.
+pub step-ranges : (size : ℕ) (s : Machine) (m : List ℕ) → InRange (s .registers) → Bytes m
+    → StepKept (s .cycles) (exec (step size s) m .0) × Bytes (exec (step size s) m .1)
+step-ranges size s m h b = within-exec (StepKept (s .cycles)) (step size s) m (step-within size s h) b
+
+-- registers in range, and at most 7 cycles for each of the steps made after k
+abbrev pub RunKept : ℕ → ℕ → Finished → Type 0
+RunKept from k q = InRange (q .machine .registers) × (q .machine .cycles + 7 * k ≤ from + 7 * q .steps)
+
+run-full-within : (n k : ℕ) (s : Machine) → InRange (s .registers) → Within (RunKept (s .cycles) k) (runFull n k s)
+unfolding runFull
+run-full-within zero k s h = (h, omega arith)
+run-full-within (suc n) k s h =
+    within-bind (StepKept (s .cycles)) (RunKept (s .cycles) k) (stepFull s) _ (step-full-within s h)
+    (λ q l. go (eqb (q .answer) 0) (q .answer) (q .machine) l (run-full-within n (k + 1) (q .machine) (l .registers)))
+  where
+    go : (t : Bool) (a : ℕ) (q : Machine) → Kept (s .cycles) (cond t 7 0) q → Within (RunKept (q .cycles) (k + 1)) (runFull n (k + 1) q)
+        → Within (RunKept (s .cycles) k) (cond t (runFull n (k + 1) q) (done (finished a k q)))
+    go true a q l w =
+        within-weaken (RunKept (q .cycles) (k + 1)) (RunKept (s .cycles) k) (runFull n (k + 1) q)
+        (λ f g. (g .0, omega (arith, g .1, l .cycles)))
+        w
+    go false a q l w = (l .registers, omega (arith, l .cycles))
+
+run-within : (size bound : ℕ) (s : Machine) → InRange (s .registers) → Within (RunKept (s .cycles) 0) (run size bound s)
+unfolding run
+run-within size bound s h =
+    within-cond _ (eqb size fullMemory) _ _
+    (within-cond _ (leb bound highestBound) _ _ (run-full-within bound 0 s h) (h, omega arith))
+    (h, omega arith)
+
+-- A run does the same, and adds at most 7 cycles for each step that it made.
+pub run-ranges : (size bound : ℕ) (s : Machine) (m : List ℕ) → InRange (s .registers) → Bytes m
+    → RunKept (s .cycles) 0 (exec (run size bound s) m .0) × Bytes (exec (run size bound s) m .1)
+run-ranges size bound s m h b = within-exec (RunKept (s .cycles) 0) (run size bound s) m (run-within size bound s h) b
