@@ -27,3 +27,7 @@ pub entry-at : (operations modes cycles : List ℕ)
     → (k : ℕ) → k < 256 → entryIn operations modes cycles k ≡ decoded k
 unfolding entryIn
 entry-at operations modes cycles same = agree (entryIn operations modes cycles) decoded 256 same
+
+-- three lists that say of every opcode what it means
+abbrev pub Listed : List ℕ → List ℕ → List ℕ → Type 0
+Listed operations modes cycles = (k : ℕ) → k < 256 → entryIn operations modes cycles k ≡ decoded k

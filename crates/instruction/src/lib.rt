@@ -1,11 +1,16 @@
 // The instructions and addressing modes of the NMOS 6502, after instruction.rs.
+ghost use Prim.Native.Nat.{_≤_};
 ghost use mathlib.Core.Path.{_≡_};
 ghost use Rattle.instruction.specs.Modes.{operandBytes};
 
 mod number; // number.rt: the operations and the addressing modes by number
 mod table; // table.rt: the opcode table
 
+pub use table::CYCLES;
+pub use table::MODES;
+pub use table::OPERATIONS;
 pub use table::decode;
+pub use table::decode_in;
 
 // Reads a byte: an operand of the arithmetic unit, or what a register is loaded or compared with.
 pub enum ReadOperation {
@@ -111,6 +116,7 @@ impl AddressingMode {
     // How many bytes follow the opcode.
     pub fn extra_bytes(self) -> u16
         ensures { λ r. ⌜ r ≡ operandBytes self ⌝ }
+        ensures { λ r. ⌜ r ≤ 2 ⌝ }
     {
         match self {
             AddressingMode::Accumulator => 0,

@@ -8,7 +8,7 @@ use crate::number::mode_at;
 use crate::number::operation_at;
 
 // The operation of each opcode, by number; 255 where the opcode is not defined.
-const OPERATIONS: [u8; 256] = *b"\
+pub const OPERATIONS: [u8; 256] = *b"\
     \x0A\x22\xFF\xFF\xFF\x22\x02\xFF\x24\x22\x02\xFF\xFF\x22\x02\xFF\
     \x09\x22\xFF\xFF\xFF\x22\x02\xFF\x0D\x22\xFF\xFF\xFF\x22\x02\xFF\
     \x1C\x01\xFF\xFF\x06\x01\x27\xFF\x26\x01\x27\xFF\x06\x01\x27\xFF\
@@ -27,7 +27,7 @@ const OPERATIONS: [u8; 256] = *b"\
     \x05\x2B\xFF\xFF\xFF\x2B\x18\xFF\x2D\x2B\xFF\xFF\xFF\x2B\x18\xFF";
 
 // The addressing mode of each opcode, by number.
-const MODES: [u8; 256] = *b"\
+pub const MODES: [u8; 256] = *b"\
     \x01\x0B\x00\x00\x00\x03\x03\x00\x01\x02\x00\x00\x00\x07\x07\x00\
     \x06\x0C\x00\x00\x00\x04\x04\x00\x01\x09\x00\x00\x00\x08\x08\x00\
     \x07\x0B\x00\x00\x03\x03\x03\x00\x01\x02\x00\x00\x07\x07\x07\x00\
@@ -46,7 +46,7 @@ const MODES: [u8; 256] = *b"\
     \x06\x0C\x00\x00\x00\x04\x04\x00\x01\x09\x00\x00\x00\x08\x08\x00";
 
 // The base cycles of each opcode.
-const CYCLES: [u8; 256] = *b"\
+pub const CYCLES: [u8; 256] = *b"\
     \x07\x06\x00\x00\x00\x03\x05\x00\x03\x02\x02\x00\x00\x04\x06\x00\
     \x02\x05\x00\x00\x00\x04\x06\x00\x02\x04\x00\x00\x00\x04\x07\x00\
     \x06\x06\x00\x00\x03\x03\x05\x00\x04\x02\x02\x00\x04\x04\x06\x00\
@@ -64,8 +64,13 @@ const CYCLES: [u8; 256] = *b"\
     \x02\x06\x00\x00\x03\x03\x05\x00\x02\x02\x02\x00\x04\x04\x06\x00\
     \x02\x05\x00\x00\x00\x04\x06\x00\x02\x04\x00\x00\x00\x04\x07\x00";
 
-// What three arrays of numbers say of an opcode.
-fn entry_in(operations: &[u8; 256], modes: &[u8; 256], cycles: &[u8; 256], opcode: u8) -> Decoded
+// What three arrays of numbers say of an opcode. A caller that lays the arrays out once asks here; `decode` lays them out for one opcode.
+pub fn decode_in(
+    operations: &[u8; 256],
+    modes: &[u8; 256],
+    cycles: &[u8; 256],
+    opcode: u8,
+) -> Decoded
     ensures { λ r. ⌜ r ≡ entryIn (now (operations .entry)) (now (modes .entry)) (now (cycles .entry)) opcode ⌝ }
 {
     let at = opcode as usize;
@@ -85,5 +90,5 @@ fn entry_in(operations: &[u8; 256], modes: &[u8; 256], cycles: &[u8; 256], opcod
 pub fn decode(opcode: u8) -> Decoded
     ensures { λ r. ⌜ r ≡ decoded opcode ⌝ }
 {
-    entry_in(&OPERATIONS, &MODES, &CYCLES, opcode)
+    decode_in(&OPERATIONS, &MODES, &CYCLES, opcode)
 }

@@ -15,3 +15,5 @@ pub mod IntegerLemmas
 pub mod BinaryArithmetic
 pub mod DecimalDigits
 pub mod Examples
+pub mod InstructionLaws
+pub mod Extra

@@ -47,11 +47,11 @@ moved {z = pos n} d e = omega arith
 moved {z = negsuc n} d e = omega arith
 
 -- two integers with one difference are equal
-same : {z w : ℤ} {x y : ℕ} → Difference z x y → Difference w x y → z ≡ w
-same {z = pos n} {w = pos k} d e = ap pos (omega arith)
-same {z = pos n} {w = negsuc k} d e = absurd (omega arith)
-same {z = negsuc n} {w = pos k} d e = absurd (omega arith)
-same {z = negsuc n} {w = negsuc k} d e = ap negsuc (omega arith)
+pub same : {z w : ℤ} {x y u v : ℕ} → Difference z x y → Difference w u v → x + v ≡ u + y → z ≡ w
+same {z = pos n} {w = pos k} d e h = ap pos (omega arith)
+same {z = pos n} {w = negsuc k} d e h = absurd (omega arith)
+same {z = negsuc n} {w = pos k} d e h = absurd (omega arith)
+same {z = negsuc n} {w = negsuc k} d e h = ap negsuc (omega arith)
 
 -- a natural number takes nothing away
 pub natural : (n : ℕ) → Difference (pos n) n 0
@@ -86,4 +86,4 @@ of-byte b h =
 -- a byte that is x - y modulo 256 is x - y as a signed number, if that is from minus 128 to 127
 pub signed-byte :
     (b : ℕ) {z : ℤ} {x y : ℕ} → b < 256 → (b + y) % 256 ≡ x % 256 → Difference z x y → (y ≤ x + 128) × (x ≤ y + 127) → signed b ≡ z
-signed-byte b h e d range = same (moved (of-byte b h) (omega arith)) d
+signed-byte b h e d range = same (of-byte b h) d (omega arith)

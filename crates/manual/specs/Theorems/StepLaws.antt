@@ -1,8 +1,11 @@
 -- What a step and a run give, by the tests that they make: the laws behind the answers, and those that the code's proofs cite.
-use Prim.Native.Nat.{ℕ, suc, _+_, _≤_, _<_}
-use mathlib.Core.Path.{_≡_, refl, _∙_}
+use Prim.Native.Nat.{ℕ, suc, _+_, _-_, _≤_, _<_}
+use mathlib.Core.Path.{_≡_, refl, ap, sym, _∙_}
+use mathlib.Core.Bool.{Bool, true, false, cond}
 use mathlib.Core.List.{List}
-use borrow.Author.Tests.{lt-ltb, le-ltb, le-leb, lt-leb, eq-eqb, ne-eqb}
+use native.Mathlib.Omega.{arith}
+use borrow.Author.Tests.{eqb-true, lt-ltb, le-ltb, le-leb, lt-leb, eq-eqb, ne-eqb}
+use lib.Dec.{eqb}
 use lib.ListN.{getD}
 use Rattle.instruction.specs.declared.Entry.{Entry}
 use Rattle.instruction.specs.declared.Decoded.{Decoded}
@@ -12,8 +15,8 @@ use Rattle.manual.specs.declared.Machine.{Machine}
 use Rattle.manual.specs.declared.Effect.{Effect}
 use Rattle.manual.specs.Micro.{done, exec, Gives}
 use Rattle.manual.specs.Instructions.{perform}
-use Rattle.manual.specs.Stepping.{Stepped, fullMemory, highestCount, highestBound, stepped, finished, act, stepFull, step, runFull, run}
-use Rattle.manual.specs.Theorems.Programs.{exec-then, then}
+use Rattle.manual.specs.Stepping.{Stepped, Finished, fullMemory, highestCount, highestBound, stepped, finished, act, stepFull, step, runFull, run}
+use Rattle.manual.specs.Theorems.Programs.{exec-bind, exec-then, then}
 
 -- the byte at the counter
 abbrev pub opcodeOf : Machine → List ℕ → ℕ
@@ -86,3 +89,35 @@ pub run-stop : (n k : ℕ) (s : Machine) (m : List ℕ) (q : Stepped) (m′ : Li
     → Gives (runFull (suc n) k s) m (finished (q .answer) k (q .machine)) m′
 unfolding runFull
 run-stop n k s m q m′ g h = exec-then (stepFull s) _ m g ∙ simp (ne-eqb _ _ h)
+
+-- the same inside a loop, before step k of a bound
+pub run-next : (bound k : ℕ) (s : Machine) (m : List ℕ) {s′ : Machine} {m′ : List ℕ} → k < bound
+    → Gives (stepFull s) m (stepped 0 s′) m′
+    → exec (runFull (bound - k) k s) m ≡ exec (runFull (bound - (k + 1)) (k + 1) s′) m′
+run-next bound k s m {s′} {m′} l g =
+    let e : bound - k ≡ suc (bound - (k + 1)) = omega arith in
+    rw e (run-more (bound - (k + 1)) k s m (stepped 0 s′) m′ g refl)
+
+pub run-refused : (bound k a : ℕ) (s : Machine) (m : List ℕ) {s′ : Machine} {m′ : List ℕ} → k < bound
+    → Gives (stepFull s) m (stepped (suc a) s′) m′
+    → Gives (runFull (bound - k) k s) m (finished (suc a) k s′) m′
+run-refused bound k a s m {s′} {m′} l g =
+    let e : bound - k ≡ suc (bound - (k + 1)) = omega arith in
+    rw e (run-stop (bound - (k + 1)) k s m (stepped (suc a) s′) m′ g (λ z. omega arith))
+
+-- a step is a run with the bound 1
+asStep : Finished × List ℕ → Stepped × List ℕ
+asStep w = (stepped (w .0 .answer) (w .0 .machine), w .1)
+
+ends : (t : Bool) (q : Stepped) (m : List ℕ) → eqb (q .answer) 0 ≡ t
+    → asStep (exec (cond t (runFull 0 (0 + 1) (q .machine)) (done (finished (q .answer) 0 (q .machine)))) m) ≡ (q, m)
+unfolding asStep runFull
+ends true q m e = ap (λ (a : ℕ). (stepped a (q .machine), m)) (sym (eqb-true _ _ e))
+ends false q m e = refl
+
+pub step-as-run : (s : Machine) (m : List ℕ) {q : Finished} {m′ : List ℕ} → Gives (runFull 1 0 s) m q m′
+    → Gives (stepFull s) m (stepped (q .answer) (q .machine)) m′
+unfolding asStep runFull
+step-as-run s m g =
+    let p = exec (stepFull s) m in
+    sym (ap asStep (exec-bind (stepFull s) _ m) ∙ ends (eqb (p .0 .answer) 0) (p .0) (p .1) refl) ∙ ap asStep g

@@ -9,7 +9,7 @@ use Rattle.instruction.proofs.table.decode.Tie as tie
 
 returns : tie.Need-returns
 unfolding decoded rows operationAt operations modeAt modes
-returns c = rw (c .entry-in .ensures) (entry-at _ _ _ refl (c .before .before .before .before .args .opcode) (search needs))
+returns c = rw (c .decode-in .ensures) (entry-at _ _ _ refl (c .before .before .before .before .args .opcode) (search needs))
 
 pub decode-spec : {M : Type 1} → statement M
 decode-spec = tie.close (tie.spec (search needs) returns)

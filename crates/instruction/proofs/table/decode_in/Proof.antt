@@ -2,8 +2,8 @@
 use borrow.Author.Needs.{needs}
 use borrow.Author.Tests.{eq-eqb, ne-eqb}
 use Rattle.instruction.specs.Arrays.{entryIn}
-use Rattle.instruction.proofs.table.entry_in.Statement.{statement}
-use Rattle.instruction.proofs.table.entry_in.Tie as tie
+use Rattle.instruction.proofs.table.decode_in.Statement.{statement}
+use Rattle.instruction.proofs.table.decode_in.Tie as tie
 
 undefined : tie.Need-returns
 unfolding entryIn
@@ -15,8 +15,8 @@ defined c =
     rw (c .before .mode-at .ensures, c .before .before .before .operation-at .ensures)
     (simp (ne-eqb _ _ (c .before .before .before .before .if1 .left)))
 
-pub entry-in-spec : {M : Type 1} → statement M
-entry-in-spec =
+pub decode-in-spec : {M : Type 1} → statement M
+decode-in-spec =
     tie.close
     (tie.spec
     (search needs)

@@ -1,0 +1,12 @@
+-- Two pulls, one after the other.
+use mathlib.Core.Path.{_∙_}
+use Rattle.manual.specs.Theorems.InstructionLaws.{pull-address-gives}
+use borrow.Author.Needs.{needs}
+use Rattle.memory.proofs.pull_address.Statement.{statement}
+use Rattle.memory.proofs.pull_address.Tie as tie
+
+returns : tie.Need-returns
+returns c = pull-address-gives _ _ (c .before .before .before .pull-from-stack .ensures) (c .before .before .pull-from-stack2 .ensures) ∙ rw (c .before .address-from-bytes .ensures)
+
+pub pull-address-spec : {M : Type 1} → statement M
+pull-address-spec = tie.close (tie.spec (search needs) (search needs) (search needs) returns)

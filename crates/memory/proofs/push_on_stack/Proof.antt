@@ -1,0 +1,12 @@
+-- A store at the pointer and a pointer one lower are `push`.
+use Rattle.manual.specs.Stack.{push}
+use borrow.Author.Needs.{needs}
+use Rattle.memory.proofs.push_on_stack.Statement.{statement}
+use Rattle.memory.proofs.push_on_stack.Tie as tie
+
+returns : tie.Need-returns
+unfolding push
+returns c = rw (c .with-stack .ensures, c .before .decrement .ensures, c .before .before .before .before .set-byte .ensures, c .before .before .before .before .before .join .ensures)
+
+pub push-on-stack-spec : {M : Type 1} → statement M
+push-on-stack-spec = tie.close (tie.spec (search needs) (search needs) (search needs) (search needs) (search needs) returns)

@@ -1,0 +1,12 @@
+-- The counter goes where the mode leads.
+use mathlib.Core.Path.{sym, _∙_}
+use Rattle.manual.specs.Theorems.InstructionLaws.{jump-gives}
+use borrow.Author.Needs.{needs}
+use Rattle.operations.proofs.jump.Statement.{statement}
+use Rattle.operations.proofs.jump.Tie as tie
+
+returns : tie.Need-returns
+returns c = jump-gives _ _ _ _ (c .before .target-of .ensures) ∙ rw (c .with-counter .ensures)
+
+pub jump-spec : {M : Type 1} → statement M
+jump-spec = tie.close (tie.spec (search needs) (search needs) returns)

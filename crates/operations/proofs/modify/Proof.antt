@@ -1,0 +1,18 @@
+-- With no operand byte it is the accumulator, otherwise the byte where the mode leads.
+use mathlib.Core.Path.{sym, _∙_}
+use Rattle.manual.specs.Instructions.{perform}
+use Rattle.manual.specs.Theorems.InstructionLaws.{modify-accumulator-gives, modify-memory-gives}
+use borrow.Author.Needs.{needs}
+use Rattle.operations.proofs.modify.Statement.{statement}
+use Rattle.operations.proofs.modify.Tie as tie
+
+returns : tie.Need-returns
+unfolding perform
+returns c = modify-accumulator-gives _ _ _ _ (sym (c .before .before .extra-bytes .ensures .0) ∙ c .before .if1 .taken) ∙ rw (c .modify-accumulator .ensures)
+
+returns-2 : tie.Need-returns-2
+unfolding perform
+returns-2 c = modify-memory-gives _ _ _ _ (c .before .before .before .before .before .before .before .before .before .target-of .ensures) _ (λ e. c .before .before .before .before .before .before .before .before .before .before .before .if1 .left (c .before .before .before .before .before .before .before .before .before .before .before .before .extra-bytes .ensures .0 ∙ e)) ∙ rw (c .set-flags-from-modified .ensures, c .before .advanced .ensures, c .before .before .before .before .set-byte .ensures, c .before .before .before .before .before .modify-byte .ensures, c .before .before .before .before .before .before .before .get-byte .ensures)
+
+pub modify-spec : {M : Type 1} → statement M
+modify-spec = tie.close (tie.spec (search needs) (search needs) returns (search needs) (search needs) (search needs) (search needs) (search needs) (search needs) (search needs) returns-2)

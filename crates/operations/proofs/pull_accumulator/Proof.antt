@@ -1,0 +1,12 @@
+-- The pulled byte is loaded.
+use mathlib.Core.Path.{sym, _∙_}
+use Rattle.manual.specs.Theorems.InstructionLaws.{pull-accumulator-gives}
+use borrow.Author.Needs.{needs}
+use Rattle.operations.proofs.pull_accumulator.Statement.{statement}
+use Rattle.operations.proofs.pull_accumulator.Tie as tie
+
+returns : tie.Need-returns
+returns c = pull-accumulator-gives _ _ _ (c .before .before .pull-from-stack .ensures) ∙ rw (c .load-accumulator .ensures, c .before .advanced .ensures)
+
+pub pull-accumulator-spec : {M : Type 1} → statement M
+pull-accumulator-spec = tie.close (tie.spec (search needs) (search needs) (search needs) returns)

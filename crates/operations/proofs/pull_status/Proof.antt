@@ -1,0 +1,12 @@
+-- The pulled byte becomes the status.
+use mathlib.Core.Path.{sym, _∙_}
+use Rattle.manual.specs.Theorems.InstructionLaws.{pull-status-gives}
+use borrow.Author.Needs.{needs}
+use Rattle.operations.proofs.pull_status.Statement.{statement}
+use Rattle.operations.proofs.pull_status.Tie as tie
+
+returns : tie.Need-returns
+returns c = pull-status-gives _ _ _ (c .before .before .before .pull-from-stack .ensures) ∙ rw (c .with-status .ensures, c .before .pulled .ensures, c .before .before .advanced .ensures)
+
+pub pull-status-spec : {M : Type 1} → statement M
+pull-status-spec = tie.close (tie.spec (search needs) (search needs) (search needs) (search needs) returns)

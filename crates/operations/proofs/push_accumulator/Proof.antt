@@ -1,0 +1,12 @@
+-- The accumulator is pushed.
+use mathlib.Core.Path.{sym, _∙_}
+use Rattle.manual.specs.Theorems.InstructionLaws.{push-accumulator-gives}
+use borrow.Author.Needs.{needs}
+use Rattle.operations.proofs.push_accumulator.Statement.{statement}
+use Rattle.operations.proofs.push_accumulator.Tie as tie
+
+returns : tie.Need-returns
+returns c = push-accumulator-gives _ _ _ (c .before .before .before .push-on-stack .ensures) ∙ rw (c .advanced .ensures)
+
+pub push-accumulator-spec : {M : Type 1} → statement M
+push-accumulator-spec = tie.close (tie.spec (search needs) (search needs) (search needs) returns)

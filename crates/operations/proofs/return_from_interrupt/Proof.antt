@@ -1,0 +1,12 @@
+-- The status comes off first, then the counter.
+use mathlib.Core.Path.{sym, _∙_}
+use Rattle.manual.specs.Theorems.InstructionLaws.{return-from-interrupt-gives}
+use borrow.Author.Needs.{needs}
+use Rattle.operations.proofs.return_from_interrupt.Statement.{statement}
+use Rattle.operations.proofs.return_from_interrupt.Tie as tie
+
+returns : tie.Need-returns
+returns c = return-from-interrupt-gives _ _ _ (c .before .before .before .before .pull-from-stack .ensures) (c .before .before .before .pull-address .ensures) ∙ rw (c .with-counter .ensures, c .before .with-status .ensures, c .before .before .pulled .ensures)
+
+pub return-from-interrupt-spec : {M : Type 1} → statement M
+return-from-interrupt-spec = tie.close (tie.spec (search needs) (search needs) (search needs) (search needs) (search needs) returns)

@@ -1,0 +1,12 @@
+-- The counter goes one past what was pulled.
+use mathlib.Core.Path.{sym, _∙_}
+use Rattle.manual.specs.Theorems.InstructionLaws.{return-gives}
+use borrow.Author.Needs.{needs}
+use Rattle.operations.proofs.return_from_subroutine.Statement.{statement}
+use Rattle.operations.proofs.return_from_subroutine.Tie as tie
+
+returns : tie.Need-returns
+returns c = return-gives _ _ _ (c .before .before .before .pull-address .ensures) ∙ rw (c .with-counter .ensures, c .before .plus .ensures)
+
+pub return-from-subroutine-spec : {M : Type 1} → statement M
+return-from-subroutine-spec = tie.close (tie.spec (search needs) (search needs) (search needs) returns)

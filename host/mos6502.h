@@ -1,0 +1,54 @@
+/* The proved core on numbers, for a host in C or C++: link target/staticlib/libmos6502.a, which `rt staticlib mos6502`
+ * writes for x86-64.
+ *
+ * The registers are one number: A, X, Y, S and the status in a byte each from bit 0 on, the counter in bits 40 to 55.
+ * Bits 4 and 5 of a status given, and bits 56 to 63 of a number given, do not matter. In a number that a function
+ * makes, the first are 1, as in the status that PHP pushes, and the second 0.
+ */
+#ifndef MOS6502_H
+#define MOS6502_H
+
+#include <stddef.h>
+#include <stdint.h>
+
+#ifdef __cplusplus
+extern "C" {
+#endif
+
+/* The number of these registers. */
+uint64_t mos6502_registers(uint8_t accumulator, uint8_t x, uint8_t y, uint8_t stack, uint8_t status, uint16_t counter);
+
+/* The registers of a number; the status as PHP pushes it. */
+uint8_t mos6502_accumulator(uint64_t registers);
+uint8_t mos6502_x(uint64_t registers);
+uint8_t mos6502_y(uint64_t registers);
+uint8_t mos6502_stack(uint64_t registers);
+uint8_t mos6502_status(uint64_t registers);
+uint16_t mos6502_counter(uint64_t registers);
+
+/* In both calls below the numbers and the `length` bytes of memory must not overlap, and nobody else may use them
+ * meanwhile. */
+
+/* One step. It answers, the first that holds:
+ *   1  length is not 65,536
+ *   2  *cycles is above 18,446,744,073,709,551,608
+ *   3  the byte at the counter is none of the 151 documented opcodes
+ *   0  the step was made: both numbers and the memory are those after it
+ * A refusal, any answer but 0, leaves both numbers and the memory as they were. */
+uint8_t mos6502_step(uint64_t *registers, uint64_t *cycles, uint8_t *memory, size_t length);
+
+/* At most `bound` steps; *steps is written, with the number of steps made. It answers, the first that holds:
+ *   1  length is not 65,536
+ *   4  bound is above 1,000,000
+ *   2, 3  as a step does, for the first step that is refused; it is not counted
+ *   0  all `bound` steps were made
+ * The numbers and the memory are those after the steps made. Where none was made, they are as they were, the registers'
+ * number to the bit. */
+uint8_t mos6502_run(uint64_t *registers, uint64_t *cycles, uint64_t *steps, uint64_t bound, uint8_t *memory,
+                    size_t length);
+
+#ifdef __cplusplus
+}
+#endif
+
+#endif
