@@ -38,7 +38,7 @@ pub enum RunAnswer {
     BoundTooHigh(Progress),
 }
 
-// A step on a full memory, with the opcode table laid out by the caller. It has one caller: see DECISIONS.md on speed.
+// A step on a full memory, with the opcode table laid out by the caller. It has one caller, so that the compiler puts it into the loop.
 fn step_in(
     operations: &[u8; 256],
     modes: &[u8; 256],

@@ -36,26 +36,13 @@ across (c ∷ cs) i (k ∷ ks) = row i c k ∷ across cs i ks
 -- The columns by class. A page cross adds to what some reads take, never to a store or a modification.
 abbrev pub reading : List Column
 reading =
-    (Immediate, 2)
-    ∷ (ZeroPage, 3)
-    ∷ (ZeroPageX, 4)
-    ∷ (Absolute, 4)
-    ∷ (AbsoluteX, 4)
-    ∷ (AbsoluteY, 4)
-    ∷ (IndexedIndirectX, 6)
-    ∷ (IndirectIndexedY, 5)
-    ∷ []
+    (Immediate, 2) ∷ (ZeroPage, 3) ∷ (ZeroPageX, 4) ∷ (Absolute, 4) ∷ (AbsoluteX, 4) ∷ (AbsoluteY, 4)
+    ∷ (IndexedIndirectX, 6) ∷ (IndirectIndexedY, 5) ∷ []
 
 abbrev pub storing : List Column
 storing =
-    (ZeroPage, 3)
-    ∷ (ZeroPageX, 4)
-    ∷ (Absolute, 4)
-    ∷ (AbsoluteX, 5)
-    ∷ (AbsoluteY, 5)
-    ∷ (IndexedIndirectX, 6)
-    ∷ (IndirectIndexedY, 6)
-    ∷ []
+    (ZeroPage, 3) ∷ (ZeroPageX, 4) ∷ (Absolute, 4) ∷ (AbsoluteX, 5) ∷ (AbsoluteY, 5)
+    ∷ (IndexedIndirectX, 6) ∷ (IndirectIndexedY, 6) ∷ []
 
 abbrev pub modifying : List Column
 modifying = (Accumulator, 2) ∷ (ZeroPage, 5) ∷ (ZeroPageX, 6) ∷ (Absolute, 6) ∷ (AbsoluteX, 7) ∷ []

@@ -1,12 +1,13 @@
 -- No instruction takes more cycles beyond its base than the table allows it: one for a read that crosses a page, two for a branch.
 use Prim.Native.Nat.{ℕ, _≤_}
 use mathlib.Core.Path.{ap}
-use mathlib.Core.Bool.{Bool, true, false, cond}
+use mathlib.Core.Bool.{Bool, true, false}
 use mathlib.Core.List.{List}
 use native.Mathlib.Omega.{arith}
 use lib.Dec.{eqb, lit≤}
 use Rattle.registers.specs.declared.Registers.{Registers}
-use Rattle.registers.specs.StatusByte.{bit, pushedByte}
+use Rattle.registers.specs.StatusByte.{pushedByte}
+use Rattle.registers.specs.RoundTrip.{bit-most}
 use Rattle.instruction.specs.declared.Instruction.{Instruction}
 use Rattle.instruction.specs.declared.Instruction.the-variants.{Read, Store, Modify, Branch, Internal, BRK, JMP, JSR, PHA, PHP, PLA, PLP, RTI, RTS}
 use Rattle.instruction.specs.declared.AddressingMode.{AddressingMode}
@@ -19,26 +20,18 @@ use Rattle.manual.specs.Branching.{holds, branched}
 use Rattle.manual.specs.Addressing.{operand, target}
 use Rattle.manual.specs.Stack.{push, pull, pushAddress, pullAddress}
 use Rattle.manual.specs.Instructions.{modify, perform}
-use Rattle.manual.specs.Theorems.Programs.{exec-bind}
-
-bit-most : (t : Bool) → bit t ≤ 1
-bit-most true = lit≤ tt
-bit-most false = lit≤ tt
+use Rattle.manual.specs.Theorems.Programs.{exec-bind, either}
 
 branched-extra : (t : Bool) (a : Target) (r : Registers) → branched t a r .extra ≤ 2
 unfolding branched
 branched-extra true a r = omega (arith, bit-most (a .crossed))
 branched-extra false a r = lit≤ tt
 
-cond-extra : (t : Bool) (p q : Micro Effect) (m : List ℕ) (n : ℕ) → exec p m .0 .extra ≤ n → exec q m .0 .extra ≤ n → exec (cond t p q) m .0 .extra ≤ n
-cond-extra true p q m n f g = f
-cond-extra false p q m n f g = g
-
 pub extra-most : (i : Instruction) (mode : AddressingMode) (r : Registers) (m : List ℕ) → exec (perform i mode r) m .0 .extra ≤ mostExtra i
 unfolding perform modify
 extra-most (Read k) mode r m = rw (exec-bind (target mode r) _ m) (bit-most (exec (target mode r) m .0 .crossed))
 extra-most (Store k) mode r m = rw (exec-bind (target mode r) _ m) (lit≤ tt)
-extra-most (Modify k) mode r m = cond-extra (eqb (operandBytes mode) 0) _ _ m 0 (lit≤ tt) (rw (exec-bind (target mode r) _ m) (lit≤ tt))
+extra-most (Modify k) mode r m = either (λ (p : Micro Effect). exec p m .0 .extra ≤ 0) (eqb (operandBytes mode) 0) _ _ (lit≤ tt) (rw (exec-bind (target mode r) _ m) (lit≤ tt))
 extra-most (Branch k) mode r m = rw (exec-bind (target mode r) _ m) (branched-extra (holds k (r .status)) _ _)
 extra-most (Internal k) mode r m = lit≤ tt
 extra-most JMP mode r m = rw (exec-bind (target mode r) _ m) (lit≤ tt)

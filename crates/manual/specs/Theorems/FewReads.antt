@@ -1,7 +1,7 @@
 -- A step reads at most five bytes.
 use Prim.Native.Nat.{ℕ, _≤_}
 use mathlib.Core.Path.{_≡_, refl}
-use mathlib.Core.Bool.{Bool, true, false, not, cond}
+use mathlib.Core.Bool.{not}
 use mathlib.Core.List.{List, _++_}
 use native.Mathlib.Omega.{arith}
 use lib.Dec.{T, eqb, ltb, lit≤}
@@ -21,10 +21,11 @@ use Rattle.manual.specs.Micro.{reads}
 use Rattle.manual.specs.Stepping.{fullMemory, highestCount, step}
 use Rattle.manual.specs.ReadList.{is, operands, pointers, reached, listed, listedEntry}
 use Rattle.manual.specs.Theorems.Reads.{suits, entry-suits, step-reads}
+use Rattle.manual.specs.Theorems.Programs.{either}
 
-pub few-cond : (t : Bool) (l k : List ℕ) (n : ℕ) → length l ≤ n → length k ≤ n → length (cond t l k) ≤ n
-few-cond true l k n f g = f
-few-cond false l k n f g = g
+-- at most so many
+abbrev pub Few : ℕ → List ℕ → Type 0
+Few n l = length l ≤ n
 
 few-operands : (mode : AddressingMode) (r : Registers) (m : List ℕ) → length (operands mode r ++ pointers mode r m) ≤ 4
 few-operands Accumulator r m = lit≤ tt
@@ -60,7 +61,7 @@ few-reached IndirectIndexedY r m h = lit≤ tt
 few-listed : (i : Instruction) (mode : AddressingMode) (r : Registers) (m : List ℕ) → T (suits i mode) → length (listed i mode r m) ≤ 4
 few-listed (Read k) mode r m h = few-reached mode r m h
 few-listed (Store k) mode r m h = few-operands mode r m
-few-listed (Modify k) mode r m h = few-cond (eqb (operandBytes mode) 0) _ _ 4 (lit≤ tt) (few-reached mode r m h)
+few-listed (Modify k) mode r m h = either (Few 4) (eqb (operandBytes mode) 0) _ _ (lit≤ tt) (few-reached mode r m h)
 few-listed (Branch k) mode r m h = few-operands mode r m
 few-listed (Internal k) mode r m h = lit≤ tt
 few-listed JMP mode r m h = few-operands mode r m
@@ -82,6 +83,6 @@ pub at-most-five-reads : (size : ℕ) (s : Machine) (m : List ℕ) → length (r
 at-most-five-reads size s m =
     let opcode = getD m (s .registers .counter) 0 in
     rw (step-reads size s m)
-    (few-cond (eqb size fullMemory) _ _ 5
-    (few-cond (ltb highestCount (s .cycles)) _ _ 5 (lit≤ tt) (omega (arith, few-entry (decoded opcode) (s .registers) m (entry-suits opcode))))
+    (either (Few 5) (eqb size fullMemory) _ _
+    (either (Few 5) (ltb highestCount (s .cycles)) _ _ (lit≤ tt) (omega (arith, few-entry (decoded opcode) (s .registers) m (entry-suits opcode))))
     (lit≤ tt))

@@ -36,10 +36,14 @@ stores-bind (done a) f m = refl
 stores-bind (read q k) f m = stores-bind (k (getD m q 0)) f m
 stores-bind (write q b k) f m = ap (λ (l : List ℕ). q ∷ l) (stores-bind k f (set m q b))
 
--- a program chosen by a test
-pub reads-cond : {A : Type 0} (t : Bool) (p q : Micro A) (m l k : List ℕ) → reads p m ≡ l → reads q m ≡ k → reads (cond t p q) m ≡ cond t l k
-reads-cond true p q m l k e f = e
-reads-cond false p q m l k e f = f
+-- what holds of both sides of a test holds of what the test chooses
+pub either : {A : Type 0} (P : A → Type 0) (t : Bool) (a b : A) → P a → P b → P (cond t a b)
+either P true a b p q = p
+either P false a b p q = q
+
+pub alike : {A B : Type 0} (R : A → B → Type 0) (t : Bool) (a a′ : A) (b b′ : B) → R a b → R a′ b′ → R (cond t a a′) (cond t b b′)
+alike R true a a′ b b′ p q = p
+alike R false a a′ b b′ p q = q
 
 -- what the first part gave is handed on to the second
 pub exec-then : {A B : Type 0} (p : Micro A) (f : A → Micro B) (m : List ℕ) {m′ : List ℕ} {a : A}

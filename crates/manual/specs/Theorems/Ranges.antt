@@ -8,7 +8,7 @@ use native.Mathlib.Omega.{arith}
 use lib.Dec.{eqb, leb, ltb, lit≤}
 use Rattle.registers.specs.declared.Registers.{Registers}
 use Rattle.registers.specs.StatusByte.{pushedByte}
-use Rattle.registers.specs.RoundTrip.{pushed-byte}
+use Rattle.registers.specs.RoundTrip.{bit-most, pushed-byte}
 use Rattle.instruction.specs.declared.Instruction.{Instruction}
 use Rattle.instruction.specs.declared.Instruction.the-variants.{Read, Store, Modify, Branch, Internal, BRK, JMP, JSR, PHA, PHP, PLA, PLP, RTI, RTS}
 use Rattle.instruction.specs.declared.ModifyOperation.{ModifyOperation}
@@ -23,7 +23,7 @@ use Rattle.instruction.specs.Table.{mostExtra, Ruled, ruled}
 use Rattle.manual.specs.declared.Machine.{Machine}
 use Rattle.manual.specs.declared.Target.{Target}
 use Rattle.manual.specs.declared.Effect.{Effect}
-use Rattle.manual.specs.Micro.{Micro, done, exec}
+use Rattle.manual.specs.Micro.{done, exec}
 use Rattle.manual.specs.Words.{low, address, page}
 use Rattle.manual.specs.Branching.{branchTarget, branched, holds}
 use Rattle.manual.specs.Addressing.{operand, target}
@@ -31,7 +31,8 @@ use Rattle.manual.specs.Stack.{push, pull, pushAddress, pullAddress}
 use Rattle.manual.specs.Instructions.{modify, perform}
 use Rattle.manual.specs.Stepping.{Stepped, Finished, fullMemory, highestCount, highestBound, finished, act, stepFull, step, runFull, run}
 use Rattle.manual.specs.Theorems.Within.{Within, Bytes, within-exec, within-bind, within-weaken}
-use Rattle.manual.specs.Theorems.RegistersInRange.{InRange, in-setA, in-setS, in-setPC, in-setStatus, in-flags, in-past, in-loadA, bit-small, in-taken, in-stored, in-modified, in-modified-flags, in-internal, in-around}
+use Rattle.manual.specs.Theorems.RegistersInRange.{InRange, in-setA, in-setS, in-setPC, in-setStatus, in-flags, in-past, in-loadA, in-taken, in-stored, in-modified, in-modified-flags, in-internal, in-around}
+use Rattle.manual.specs.Theorems.Programs.{either}
 
 abbrev Aimed : Target → Type 0
 Aimed t = t .address < 65536
@@ -81,17 +82,13 @@ Ranged most f = InRange (f .registers) × (f .extra ≤ most)
 
 branched-within : (t : Bool) (a : Target) (r : Registers) → Aimed a → InRange r → Ranged 2 (branched t a r)
 unfolding branched
-branched-within true a r l h = (in-setPC r h _ l, omega (arith, bit-small (a .crossed)))
+branched-within true a r l h = (in-setPC r h _ l, omega (arith, bit-most (a .crossed)))
 branched-within false a r l h = (h, omega arith)
-
-within-cond : {A : Type 0} (Q : A → Type 0) (t : Bool) (p q : Micro A) → Within Q p → Within Q q → Within Q (cond t p q)
-within-cond Q true p q f g = f
-within-cond Q false p q f g = g
 
 modify-within : (k : ModifyOperation) (mode : AddressingMode) (r : Registers) → InRange r → Within (Ranged 0) (modify k mode r)
 unfolding modify
 modify-within k mode r h =
-    within-cond (Ranged 0) (eqb (operandBytes mode) 0) _ _
+    either (Within (Ranged 0)) (eqb (operandBytes mode) 0) _ _
     (in-setA _ (in-modified-flags k _ _ (in-past r h mode)) _ (in-modified k _ _ (h .accumulator)), lit≤ tt)
     (within-bind Aimed (Ranged 0) (target mode r) _ (target-within mode r h)
     (λ t l. (l, λ b j. (l, in-modified k b _ j, (in-modified-flags k b _ (in-past r h mode), lit≤ tt)))))
@@ -100,7 +97,7 @@ perform-within : (i : Instruction) (mode : AddressingMode) (r : Registers) → I
 unfolding perform
 perform-within (Read k) mode r h =
     within-bind Aimed (Ranged 1) (target mode r) _ (target-within mode r h)
-    (λ t l. (l, λ b j. (in-taken k b _ (in-past r h mode) j, bit-small (t .crossed))))
+    (λ t l. (l, λ b j. (in-taken k b _ (in-past r h mode) j, bit-most (t .crossed))))
 perform-within (Store k) mode r h =
     within-bind Aimed (Ranged 0) (target mode r) _ (target-within mode r h)
     (λ t l. (l, in-stored k r h, (in-past r h mode, lit≤ tt)))
@@ -173,13 +170,13 @@ act-within Undefined s h c = unmoved (s .cycles) s h (omega arith)
 step-full-within : (s : Machine) → InRange (s .registers) → Within (StepKept (s .cycles)) (stepFull s)
 unfolding stepFull
 step-full-within s h =
-    within-cond _ (ltb highestCount (s .cycles)) _ _
+    either (Within (StepKept (s .cycles))) (ltb highestCount (s .cycles)) _ _
     (unmoved (s .cycles) s h (omega arith))
     (h .counter, λ b l. act-within (decoded b) s h (ruled b))
 
 step-within : (size : ℕ) (s : Machine) → InRange (s .registers) → Within (StepKept (s .cycles)) (step size s)
 unfolding step
-step-within size s h = within-cond _ (eqb size fullMemory) _ _ (step-full-within s h) (unmoved (s .cycles) s h (omega arith))
+step-within size s h = either (Within (StepKept (s .cycles))) (eqb size fullMemory) _ _ (step-full-within s h) (unmoved (s .cycles) s h (omega arith))
 
 -- A step from registers and bytes in range leaves them in range. It adds at most 7 to the cycle count, and nothing where it is refused.
 pub step-ranges : (size : ℕ) (s : Machine) (m : List ℕ) → InRange (s .registers) → Bytes m
@@ -208,8 +205,8 @@ run-full-within (suc n) k s h =
 run-within : (size bound : ℕ) (s : Machine) → InRange (s .registers) → Within (RunKept (s .cycles) 0) (run size bound s)
 unfolding run
 run-within size bound s h =
-    within-cond _ (eqb size fullMemory) _ _
-    (within-cond _ (leb bound highestBound) _ _ (run-full-within bound 0 s h) (h, omega arith))
+    either (Within (RunKept (s .cycles) 0)) (eqb size fullMemory) _ _
+    (either (Within (RunKept (s .cycles) 0)) (leb bound highestBound) _ _ (run-full-within bound 0 s h) (h, omega arith))
     (h, omega arith)
 
 -- A run does the same, and adds at most 7 cycles for each step that it made.

@@ -27,8 +27,12 @@ use Rattle.manual.specs.Addressing.{target}
 use Rattle.manual.specs.Stack.{push, pull, pushAddress, pullAddress}
 use Rattle.manual.specs.Instructions.{modify, perform}
 use Rattle.manual.specs.Stepping.{fullMemory, highestCount, highestBound, act, stepFull, step, runFull, run}
-use Rattle.manual.specs.Theorems.Programs.{reads-bind, reads-cond}
+use Rattle.manual.specs.Theorems.Programs.{reads-bind, alike}
 use Rattle.manual.specs.ReadList.{is, operands, pointers, reached, listed, listedEntry, listedStepFull, listedStep, listedRunFull, listedRun}
+
+-- the program p reads l
+abbrev ReadsFrom : {A : Type 0} → List ℕ → Micro A → List ℕ → Type 0
+ReadsFrom m p l = reads p m ≡ l
 
 mode-reads : (mode : AddressingMode) (r : Registers) (m : List ℕ) → T (not (is mode Immediate))
     → reads (target mode r) m ≡ operands mode r ++ pointers mode r m
@@ -93,7 +97,7 @@ up-again n = omega arith
 modify-reads : (k : ModifyOperation) (mode : AddressingMode) (r : Registers) (m : List ℕ)
     → reads (modify k mode r) m ≡ listed (Modify k) mode r m
 unfolding reads modify
-modify-reads k mode r m = reads-cond (eqb (operandBytes mode) 0) _ _ m _ _ refl (fetch-reads mode _ r m ∙ append-nil _)
+modify-reads k mode r m = alike (ReadsFrom m) (eqb (operandBytes mode) 0) _ _ _ _ refl (fetch-reads mode _ r m ∙ append-nil _)
 
 perform-reads : (i : Instruction) (mode : AddressingMode) (r : Registers) (m : List ℕ) → T (suits i mode)
     → reads (perform i mode r) m ≡ listed i mode r m
@@ -131,13 +135,13 @@ step-full-reads : (s : Machine) (m : List ℕ) → reads (stepFull s) m ≡ list
 unfolding reads stepFull
 step-full-reads s m =
     let opcode = getD m (s .registers .counter) 0 in
-    reads-cond (ltb highestCount (s .cycles)) _ _ m _ _ refl
+    alike (ReadsFrom m) (ltb highestCount (s .cycles)) _ _ _ _ refl
     (ap (λ (l : List ℕ). s .registers .counter ∷ l) (act-reads (decoded opcode) s m (entry-suits opcode)))
 
 -- A step reads document 01's list.
 pub step-reads : (size : ℕ) (s : Machine) (m : List ℕ) → reads (step size s) m ≡ listedStep size s m
 unfolding reads step
-step-reads size s m = reads-cond (eqb size fullMemory) _ _ m _ _ (step-full-reads s m) refl
+step-reads size s m = alike (ReadsFrom m) (eqb size fullMemory) _ _ _ _ (step-full-reads s m) refl
 
 run-full-reads : (n k : ℕ) (s : Machine) (m : List ℕ) → reads (runFull n k s) m ≡ listedRunFull n s m
 unfolding reads runFull
@@ -145,10 +149,10 @@ run-full-reads zero k s m = refl
 run-full-reads (suc n) k s m =
     reads-bind (stepFull s) _ m
     ∙ ap₂ (λ (l t : List ℕ). l ++ t) (step-full-reads s m)
-    (reads-cond (eqb (exec (stepFull s) m .0 .answer) 0) _ _ _ _ _ (run-full-reads n (k + 1) _ _) refl)
+    (alike (ReadsFrom (exec (stepFull s) m .1)) (eqb (exec (stepFull s) m .0 .answer) 0) _ _ _ _ (run-full-reads n (k + 1) _ _) refl)
 
 -- A run reads what document 01 lists.
 pub run-reads : (size bound : ℕ) (s : Machine) (m : List ℕ) → reads (run size bound s) m ≡ listedRun size bound s m
 unfolding reads run
 run-reads size bound s m =
-    reads-cond (eqb size fullMemory) _ _ m _ _ (reads-cond (leb bound highestBound) _ _ m _ _ (run-full-reads bound 0 s m) refl) refl
+    alike (ReadsFrom m) (eqb size fullMemory) _ _ _ _ (alike (ReadsFrom m) (leb bound highestBound) _ _ _ _ (run-full-reads bound 0 s m) refl) refl

@@ -1,13 +1,12 @@
 -- Registers in range stay in range under every pure part of the definition: the registers with one replaced, and what the operations leave.
-use Prim.Native.Nat.{ℕ, _+_, _≤_, _<_}
-use mathlib.Core.Bool.{Bool, true, false, cond}
+use Prim.Native.Nat.{ℕ, _+_, _<_}
+use mathlib.Core.Bool.{Bool}
 use native.Mathlib.Omega.{arith}
-use lib.Dec.{lit≤}
 use lib.Bits.{and-le-l, or-lt, xor-lt}
 use lib.IntN.{ℤ, pos, negsuc}
 use Rattle.registers.specs.declared.Registers.{Registers}
 use Rattle.registers.specs.declared.Status.{Status}
-use Rattle.registers.specs.StatusByte.{bit}
+use Rattle.registers.specs.RoundTrip.{bit-most}
 use Rattle.instruction.specs.declared.ReadOperation.{ReadOperation}
 use Rattle.instruction.specs.declared.ReadOperation.the-variants.{ADC, AND, BIT, CMP, CPX, CPY, EOR, LDA, LDX, LDY, ORA, SBC}
 use Rattle.instruction.specs.declared.StoreOperation.{StoreOperation}
@@ -29,6 +28,7 @@ use Rattle.manual.specs.Addressing.{operand}
 use Rattle.manual.specs.IndexRegisters.{loadA, loadX, loadY, internal}
 use Rattle.manual.specs.Shifting.{modified, modifiedFlags}
 use Rattle.manual.specs.Instructions.{sum, difference, arithmetic, taken, stored, past}
+use Rattle.manual.specs.Theorems.Programs.{either}
 
 -- registers in range
 pub record InRange (r : Registers) : Type 0 where
@@ -84,21 +84,13 @@ module _ (r : Registers) (h : InRange r) (b : ℕ) (l : b < 256) where
   pub in-loadY : InRange (loadY b r)
   in-loadY = in-shown (setY b r) (in-setY r h b l) b
 
-pub bit-small : (t : Bool) → bit t ≤ 1
-bit-small true = lit≤ tt
-bit-small false = lit≤ tt
-
-pub cond-result : (t : Bool) (o q : ArithmeticOutput) → o .result < 256 → q .result < 256 → cond t o q .result < 256
-cond-result true o q f g = f
-cond-result false o q f g = g
-
 pub in-sum : (m : ℕ) (r : Registers) → sum m r .result < 256
 unfolding sum binarySum decimalSum
-in-sum m r = cond-result (r .status .decimal) _ _ (omega arith) (omega arith)
+in-sum m r = either (λ (o : ArithmeticOutput). o .result < 256) (r .status .decimal) _ _ (omega arith) (omega arith)
 
 pub in-difference : (m : ℕ) (r : Registers) → difference m r .result < 256
 unfolding difference binaryDifference decimalDifference
-in-difference m r = cond-result (r .status .decimal) _ _ (omega arith) (omega arith)
+in-difference m r = either (λ (o : ArithmeticOutput). o .result < 256) (r .status .decimal) _ _ (omega arith) (omega arith)
 
 pub in-arithmetic : (o : ArithmeticOutput) (r : Registers) → InRange r → o .result < 256 → InRange (arithmetic o r)
 unfolding arithmetic
@@ -134,7 +126,7 @@ in-modified DEC b c l = omega arith
 in-modified INC b c l = omega arith
 in-modified LSR b c l = omega arith
 in-modified ROL b c l = omega arith
-in-modified ROR b c l = omega (arith, bit-small c)
+in-modified ROR b c l = omega (arith, bit-most c)
 
 pub in-modified-flags : (k : ModifyOperation) (b : ℕ) (r : Registers) → InRange r → InRange (modifiedFlags k b r)
 unfolding modifiedFlags

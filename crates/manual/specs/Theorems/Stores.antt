@@ -2,7 +2,7 @@
 -- written byte; at most three.
 use Prim.Native.Nat.{ℕ, _+_, _≤_}
 use mathlib.Core.Path.{_≡_, refl, _∙_}
-use mathlib.Core.Bool.{Bool, true, false, cond}
+use mathlib.Core.Bool.{cond}
 use mathlib.Core.List.{List, [], _∷_, append-nil}
 use native.Mathlib.Omega.{arith}
 use lib.Dec.{eqb, ltb, lit≤}
@@ -25,8 +25,8 @@ use Rattle.manual.specs.Addressing.{target}
 use Rattle.manual.specs.Stack.{push, pull, pushAddress, pullAddress}
 use Rattle.manual.specs.Instructions.{modify, perform}
 use Rattle.manual.specs.Stepping.{fullMemory, highestCount, act, stepFull, step}
-use Rattle.manual.specs.Theorems.Programs.{stores-bind}
-use Rattle.manual.specs.Theorems.FewReads.{few-cond}
+use Rattle.manual.specs.Theorems.Programs.{stores-bind, alike, either}
+use Rattle.manual.specs.Theorems.FewReads.{Few}
 
 -- ---- the list
 
@@ -63,9 +63,9 @@ storedByStep size s m =
 
 -- ---- the definition stores to exactly these
 
-stores-cond : {A : Type 0} (t : Bool) (p q : Micro A) (m l k : List ℕ) → stores p m ≡ l → stores q m ≡ k → stores (cond t p q) m ≡ cond t l k
-stores-cond true p q m l k e f = e
-stores-cond false p q m l k e f = f
+-- the program p stores to l
+abbrev StoresTo : {A : Type 0} → List ℕ → Micro A → List ℕ → Type 0
+StoresTo m p l = stores p m ≡ l
 
 -- finding a target stores nothing and leaves the memory as it is
 target-stores : {A : Type 0} (mode : AddressingMode) (f : Target → Micro A) (r : Registers) (m : List ℕ)
@@ -92,7 +92,7 @@ perform-stores : (i : Instruction) (mode : AddressingMode) (r : Registers) (m : 
 unfolding stores perform modify push pull pushAddress pullAddress setS
 perform-stores (Read k) mode r m = target-stores mode _ r m
 perform-stores (Store k) mode r m = target-stores mode _ r m
-perform-stores (Modify k) mode r m = stores-cond (eqb (operandBytes mode) 0) _ _ m _ _ refl (target-stores mode _ r m)
+perform-stores (Modify k) mode r m = alike (StoresTo m) (eqb (operandBytes mode) 0) _ _ _ _ refl (target-stores mode _ r m)
 perform-stores (Branch k) mode r m = target-stores mode _ r m
 perform-stores (Internal k) mode r m = refl
 perform-stores JMP mode r m = target-stores mode _ r m
@@ -117,8 +117,8 @@ act-stores Undefined s m = refl
 pub step-stores : (size : ℕ) (s : Machine) (m : List ℕ) → stores (step size s) m ≡ storedByStep size s m
 unfolding stores step stepFull
 step-stores size s m =
-    stores-cond (eqb size fullMemory) _ _ m _ _
-    (stores-cond (ltb highestCount (s .cycles)) _ _ m _ _ refl (act-stores (decoded (getD m (s .registers .counter) 0)) s m))
+    alike (StoresTo m) (eqb size fullMemory) _ _ _ _
+    (alike (StoresTo m) (ltb highestCount (s .cycles)) _ _ _ _ refl (act-stores (decoded (getD m (s .registers .counter) 0)) s m))
     refl
 
 -- ---- at most three
@@ -126,7 +126,7 @@ step-stores size s m =
 few-stored : (i : Instruction) (mode : AddressingMode) (r : Registers) (m : List ℕ) → length (storedTo i mode r m) ≤ 3
 few-stored (Read k) mode r m = lit≤ tt
 few-stored (Store k) mode r m = lit≤ tt
-few-stored (Modify k) mode r m = few-cond (eqb (operandBytes mode) 0) _ _ 3 (lit≤ tt) (lit≤ tt)
+few-stored (Modify k) mode r m = either (Few 3) (eqb (operandBytes mode) 0) _ _ (lit≤ tt) (lit≤ tt)
 few-stored (Branch k) mode r m = lit≤ tt
 few-stored (Internal k) mode r m = lit≤ tt
 few-stored JMP mode r m = lit≤ tt
@@ -147,6 +147,6 @@ few-by-entry Undefined r m = lit≤ tt
 pub at-most-three-stores : (size : ℕ) (s : Machine) (m : List ℕ) → length (stores (step size s) m) ≤ 3
 at-most-three-stores size s m =
     rw (step-stores size s m)
-    (few-cond (eqb size fullMemory) _ _ 3
-    (few-cond (ltb highestCount (s .cycles)) _ _ 3 (lit≤ tt) (few-by-entry (decoded (getD m (s .registers .counter) 0)) (s .registers) m))
+    (either (Few 3) (eqb size fullMemory) _ _
+    (either (Few 3) (ltb highestCount (s .cycles)) _ _ (lit≤ tt) (few-by-entry (decoded (getD m (s .registers .counter) 0)) (s .registers) m))
     (lit≤ tt))
