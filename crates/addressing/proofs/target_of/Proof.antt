@@ -22,15 +22,27 @@ returns-4 c = rw (c .before .before .before .enum-told4 .given .1) (rw (c .plain
 
 returns-5 : tie.Need-returns-5
 unfolding target
-returns-5 c = rw (c .before .before .before .before .enum-told5 .given .1) (rw (c .plainly5 .ensures, c .before .full2 .ensures, c .before .before .plus .ensures, c .before .before .before .operand-byte2 .ensures))
+returns-5 c =
+    let c₂ = c .before .before in
+    let c₃ = c₂ .before in
+    let c₄ = c₃ .before in
+    rw (c₄ .enum-told5 .given .1) (rw (c .plainly5 .ensures, c .before .full2 .ensures, c₂ .plus .ensures, c₃ .operand-byte2 .ensures))
 
 returns-6 : tie.Need-returns-6
 unfolding target
-returns-6 c = rw (c .before .before .before .before .enum-told6 .given .1) (rw (c .plainly6 .ensures, c .before .full3 .ensures, c .before .before .plus2 .ensures, c .before .before .before .operand-byte3 .ensures))
+returns-6 c =
+    let c₂ = c .before .before in
+    let c₃ = c₂ .before in
+    let c₄ = c₃ .before in
+    rw (c₄ .enum-told6 .given .1) (rw (c .plainly6 .ensures, c .before .full3 .ensures, c₂ .plus2 .ensures, c₃ .operand-byte3 .ensures))
 
 returns-7 : tie.Need-returns-7
 unfolding target
-returns-7 c = rw (c .before .before .before .before .enum-told7 .given .1) (rw (c .landing-at .ensures, c .before .branch-target .ensures, c .before .before .operand-byte4 .ensures, c .before .before .before .operand-at2 .ensures))
+returns-7 c =
+    let c₂ = c .before .before in
+    let c₃ = c₂ .before in
+    let c₄ = c₃ .before in
+    rw (c₄ .enum-told7 .given .1) (rw (c .landing-at .ensures, c .before .branch-target .ensures, c₂ .operand-byte4 .ensures, c₃ .operand-at2 .ensures))
 
 returns-8 : tie.Need-returns-8
 unfolding target
@@ -46,15 +58,30 @@ returns-10 c = rw (c .before .before .enum-told10 .given .1) (rw (c .indexed-by2
 
 returns-11 : tie.Need-returns-11
 unfolding target
-returns-11 c = rw (c .before .before .before .before .before .before .enum-told11 .given .1) (rw (c .plainly8 .ensures, c .before .address-from-bytes .ensures, c .before .before .read-pointer .ensures, c .before .before .before .low .ensures, c .before .before .before .before .high .ensures, c .before .before .before .before .before .operand-address4 .ensures))
+returns-11 c =
+    let c₂ = c .before .before in
+    let c₃ = c₂ .before in
+    let c₄ = c₃ .before in
+    let c₅ = c₄ .before in
+    let c₆ = c₅ .before in
+    rw (c₆ .enum-told11 .given .1) (rw (c .plainly8 .ensures, c .before .address-from-bytes .ensures, c₂ .read-pointer .ensures, c₃ .low .ensures, c₄ .high .ensures, c₅ .operand-address4 .ensures))
 
 returns-12 : tie.Need-returns-12
 unfolding target
-returns-12 c = rw (c .before .before .before .before .before .enum-told12 .given .1) (rw (c .plainly9 .ensures, c .before .address-from-bytes2 .ensures, c .before .before .read-pointer2 .ensures, c .before .before .before .plus3 .ensures, c .before .before .before .before .operand-byte5 .ensures))
+returns-12 c =
+    let c₂ = c .before .before in
+    let c₃ = c₂ .before in
+    let c₄ = c₃ .before in
+    let c₅ = c₄ .before in
+    rw (c₅ .enum-told12 .given .1) (rw (c .plainly9 .ensures, c .before .address-from-bytes2 .ensures, c₂ .read-pointer2 .ensures, c₃ .plus3 .ensures, c₄ .operand-byte5 .ensures))
 
 returns-13 : tie.Need-returns-13
 unfolding target
-returns-13 c = rw (c .before .before .before .before .enum-told13 .given .1) (rw (c .indexed-by3 .ensures, c .before .address-from-bytes3 .ensures, c .before .before .read-pointer3 .ensures, c .before .before .before .operand-byte6 .ensures))
+returns-13 c =
+    let c₂ = c .before .before in
+    let c₃ = c₂ .before in
+    let c₄ = c₃ .before in
+    rw (c₄ .enum-told13 .given .1) (rw (c .indexed-by3 .ensures, c .before .address-from-bytes3 .ensures, c₂ .read-pointer3 .ensures, c₃ .operand-byte6 .ensures))
 
 pub target-of-spec : {M : Type 1} → statement M
 target-of-spec = tie.close (tie.spec (search needs) (search needs) (search needs) (search needs) (search needs) (search needs) (search needs) (search needs) (search needs) (search needs) (search needs) (search needs) (search needs) (search needs) (search needs) (search needs) (search needs) (search needs) (search needs) (search needs) (search needs) (search needs) (search needs) (search needs) (search needs) (search needs) (search needs) (search needs) (search needs) (search needs) (search needs) (search needs) (search needs) (search needs) (search needs) (search needs) (search needs) (search needs) (search needs) (search needs) (search needs) (search needs) (search needs) (search needs) (search needs) (search needs) (search needs) (search needs) (search needs) (search needs) (search needs) (search needs) (search needs) returns returns-2 returns-3 returns-4 returns-5 returns-6 returns-7 returns-8 returns-9 returns-10 returns-11 returns-12 returns-13)

@@ -32,25 +32,55 @@ step-in-requires : tie.Need-step-in-requires Inv-loop μ-loop
 step-in-requires c κs = (c .before .before .before .before .before .loop .inv .1, c .before .before .before .before .before .loop .inv .3)
 
 loop-again : tie.Need-loop-again Inv-loop μ-loop
-loop-again c = (omega arith, omega (arith, c .before .before .before .before .before .step-in .kept, c .before .before .before .before .before .before .before .before .before .before .before .loop .inv .1), c .before .before .before .before .before .before .before .before .before .before .before .loop .inv .2 ∙ run-next _ _ _ _ (omega arith) (rw (c .before .answer .given .1) at (c .before .before .before .before .before .step-in .ensures)), c .before .before .before .before .before .before .before .before .before .before .before .loop .inv .3)
+loop-again c =
+    let c₅ = c .before .before .before .before .before in
+    let c₁₁ = c₅ .before .before .before .before .before .before in
+    (omega arith, omega (arith, c₅ .step-in .kept, c₁₁ .loop .inv .1), c₁₁ .loop .inv .2 ∙ run-next _ _ _ _ (omega arith) (rw (c .before .answer .given .1) at (c₅ .step-in .ensures)), c₁₁ .loop .inv .3)
 
 same-length : tie.Need-same-length Inv-loop μ-loop
-same-length c = omega (arith, c .before .before .before .before .step-in .kept, c .before .before .before .before .before .before .before .before .before .before .loop .inv .1, c .before .before .before .before .before .before .before .before .before .before .before .before .pre)
+same-length c =
+    let c₄ = c .before .before .before .before in
+    let c₁₀ = c₄ .before .before .before .before .before .before in
+    let c₁₂ = c₁₀ .before .before in
+    omega (arith, c₄ .step-in .kept, c₁₀ .loop .inv .1, c₁₂ .pre)
 
 returns : tie.Need-returns Inv-loop μ-loop
-returns c = c .before .before .before .before .before .before .before .before .before .before .loop .inv .2 ∙ run-refused _ _ 0 _ _ (omega arith) (rw (c .enum-told .given .1) at (c .before .before .before .before .step-in .ensures)) ∙ rw (c .enum-told .given .1)
+returns c =
+    let c₄ = c .before .before .before .before in
+    let c₁₀ = c₄ .before .before .before .before .before .before in
+    c₁₀ .loop .inv .2
+    ∙ run-refused _ _ 0 _ _ (omega arith) (rw (c .enum-told .given .1) at (c₄ .step-in .ensures))
+    ∙ rw (c .enum-told .given .1)
 
 same-length-2 : tie.Need-same-length-2 Inv-loop μ-loop
-same-length-2 c = omega (arith, c .before .before .before .before .step-in .kept, c .before .before .before .before .before .before .before .before .before .before .loop .inv .1, c .before .before .before .before .before .before .before .before .before .before .before .before .pre)
+same-length-2 c =
+    let c₄ = c .before .before .before .before in
+    let c₁₀ = c₄ .before .before .before .before .before .before in
+    let c₁₂ = c₁₀ .before .before in
+    omega (arith, c₄ .step-in .kept, c₁₀ .loop .inv .1, c₁₂ .pre)
 
 returns-2 : tie.Need-returns-2 Inv-loop μ-loop
-returns-2 c = c .before .before .before .before .before .before .before .before .before .before .loop .inv .2 ∙ run-refused _ _ 1 _ _ (omega arith) (rw (c .enum-told2 .given .1) at (c .before .before .before .before .step-in .ensures)) ∙ rw (c .enum-told2 .given .1)
+returns-2 c =
+    let c₄ = c .before .before .before .before in
+    let c₁₀ = c₄ .before .before .before .before .before .before in
+    c₁₀ .loop .inv .2
+    ∙ run-refused _ _ 1 _ _ (omega arith) (rw (c .enum-told2 .given .1) at (c₄ .step-in .ensures))
+    ∙ rw (c .enum-told2 .given .1)
 
 same-length-3 : tie.Need-same-length-3 Inv-loop μ-loop
-same-length-3 c = omega (arith, c .before .before .before .before .step-in .kept, c .before .before .before .before .before .before .before .before .before .before .loop .inv .1, c .before .before .before .before .before .before .before .before .before .before .before .before .pre)
+same-length-3 c =
+    let c₄ = c .before .before .before .before in
+    let c₁₀ = c₄ .before .before .before .before .before .before in
+    let c₁₂ = c₁₀ .before .before in
+    omega (arith, c₄ .step-in .kept, c₁₀ .loop .inv .1, c₁₂ .pre)
 
 returns-3 : tie.Need-returns-3 Inv-loop μ-loop
-returns-3 c = c .before .before .before .before .before .before .before .before .before .before .loop .inv .2 ∙ run-refused _ _ 2 _ _ (omega arith) (rw (c .enum-told3 .given .1) at (c .before .before .before .before .step-in .ensures)) ∙ rw (c .enum-told3 .given .1)
+returns-3 c =
+    let c₄ = c .before .before .before .before in
+    let c₁₀ = c₄ .before .before .before .before .before .before in
+    c₁₀ .loop .inv .2
+    ∙ run-refused _ _ 2 _ _ (omega arith) (rw (c .enum-told3 .given .1) at (c₄ .step-in .ensures))
+    ∙ rw (c .enum-told3 .given .1)
 
 same-length-4 : tie.Need-same-length-4 Inv-loop μ-loop
 same-length-4 c = c .before .loop .inv .1 ∙ sym (c .before .before .before .pre)

@@ -6,7 +6,10 @@ use Rattle.memory.proofs.push_on_stack.Tie as tie
 
 returns : tie.Need-returns
 unfolding push
-returns c = rw (c .with-stack .ensures, c .before .decrement .ensures, c .before .before .before .before .set-byte .ensures, c .before .before .before .before .before .join .ensures)
+returns c =
+    let c₄ = c .before .before .before .before in
+    let c₅ = c₄ .before in
+    rw (c .with-stack .ensures, c .before .decrement .ensures, c₄ .set-byte .ensures, c₅ .join .ensures)
 
 pub push-on-stack-spec : {M : Type 1} → statement M
 push-on-stack-spec = tie.close (tie.spec (search needs) (search needs) (search needs) (search needs) (search needs) returns)

@@ -6,7 +6,11 @@ use Rattle.operations.proofs.branch.Statement.{statement}
 use Rattle.operations.proofs.branch.Tie as tie
 
 returns : tie.Need-returns
-returns c = branch-gives _ _ _ _ (c .before .before .before .before .target-of .ensures) _ ∙ rw (c .branch-if .ensures, c .before .advanced .ensures, c .before .before .condition .ensures)
+returns c =
+    let c₂ = c .before .before in
+    let c₄ = c₂ .before .before in
+    branch-gives _ _ _ _ (c₄ .target-of .ensures) _
+    ∙ rw (c .branch-if .ensures, c .before .advanced .ensures, c₂ .condition .ensures)
 
 pub branch-spec : {M : Type 1} → statement M
 branch-spec = tie.close (tie.spec (search needs) (search needs) (search needs) (search needs) returns)

@@ -12,7 +12,15 @@ returns c = modify-accumulator-gives _ _ _ _ (sym (c .before .before .extra-byte
 
 returns-2 : tie.Need-returns-2
 unfolding perform
-returns-2 c = modify-memory-gives _ _ _ _ (c .before .before .before .before .before .before .before .before .before .target-of .ensures) _ (λ e. c .before .before .before .before .before .before .before .before .before .before .before .if1 .left (c .before .before .before .before .before .before .before .before .before .before .before .before .extra-bytes .ensures .0 ∙ e)) ∙ rw (c .set-flags-from-modified .ensures, c .before .advanced .ensures, c .before .before .before .before .set-byte .ensures, c .before .before .before .before .before .modify-byte .ensures, c .before .before .before .before .before .before .before .get-byte .ensures)
+returns-2 c =
+    let c₄ = c .before .before .before .before in
+    let c₅ = c₄ .before in
+    let c₇ = c₅ .before .before in
+    let c₉ = c₇ .before .before in
+    let c₁₁ = c₉ .before .before in
+    let c₁₂ = c₁₁ .before in
+    modify-memory-gives _ _ _ _ (c₉ .target-of .ensures) _ (λ e. c₁₁ .if1 .left (c₁₂ .extra-bytes .ensures .0 ∙ e))
+    ∙ rw (c .set-flags-from-modified .ensures, c .before .advanced .ensures, c₄ .set-byte .ensures, c₅ .modify-byte .ensures, c₇ .get-byte .ensures)
 
 pub modify-spec : {M : Type 1} → statement M
 modify-spec = tie.close (tie.spec (search needs) (search needs) returns (search needs) (search needs) (search needs) (search needs) (search needs) (search needs) (search needs) returns-2)

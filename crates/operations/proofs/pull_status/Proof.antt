@@ -6,7 +6,11 @@ use Rattle.operations.proofs.pull_status.Statement.{statement}
 use Rattle.operations.proofs.pull_status.Tie as tie
 
 returns : tie.Need-returns
-returns c = pull-status-gives _ _ _ (c .before .before .before .pull-from-stack .ensures) ∙ rw (c .with-status .ensures, c .before .pulled .ensures, c .before .before .advanced .ensures)
+returns c =
+    let c₂ = c .before .before in
+    let c₃ = c₂ .before in
+    pull-status-gives _ _ _ (c₃ .pull-from-stack .ensures)
+    ∙ rw (c .with-status .ensures, c .before .pulled .ensures, c₂ .advanced .ensures)
 
 pub pull-status-spec : {M : Type 1} → statement M
 pull-status-spec = tie.close (tie.spec (search needs) (search needs) (search needs) (search needs) returns)

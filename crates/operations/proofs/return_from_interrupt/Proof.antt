@@ -6,7 +6,12 @@ use Rattle.operations.proofs.return_from_interrupt.Statement.{statement
 use Rattle.operations.proofs.return_from_interrupt.Tie as tie
 
 returns : tie.Need-returns
-returns c = return-from-interrupt-gives _ _ _ (c .before .before .before .before .pull-from-stack .ensures) (c .before .before .before .pull-address .ensures) ∙ rw (c .with-counter .ensures, c .before .with-status .ensures, c .before .before .pulled .ensures)
+returns c =
+    let c₂ = c .before .before in
+    let c₃ = c₂ .before in
+    let c₄ = c₃ .before in
+    return-from-interrupt-gives _ _ _ (c₄ .pull-from-stack .ensures) (c₃ .pull-address .ensures)
+    ∙ rw (c .with-counter .ensures, c .before .with-status .ensures, c₂ .pulled .ensures)
 
 pub return-from-interrupt-spec : {M : Type 1} → statement M
 return-from-interrupt-spec = tie.close (tie.spec (search needs) (search needs) (search needs) (search needs) (search needs) returns)
