@@ -2,9 +2,7 @@
 //! runs must end in the same state; a rate of a core that computes something else would say nothing.
 
 mod clock;
-mod loops;
-mod port;
-mod state;
+mod states;
 
 use std::process::ExitCode;
 use std::time::Duration;
@@ -12,43 +10,25 @@ use std::time::Duration;
 use mos6502::cpu::CPU;
 use mos6502::instruction::Nmos6502;
 use mos6502::memory::{Bus, Memory};
-use mos6502::registers::{StackPointer, Status};
+use oracle::loops;
+use oracle::state::{State, byte_difference, difference};
+use port::{HIGHEST_BOUND, Progress, RunAnswer};
 
 use clock::processor_time;
-use port::Port;
-use state::{State, difference};
+use states::{machine_of, state_of};
 
 const STEPS: u64 = 20_000_000;
-/// The port refuses a longer run.
-const BOUND: u64 = 1_000_000;
 const ROUNDS: usize = 5;
 
-fn start(image: &[u8]) -> State {
-    State {
-        accumulator: 0,
-        x: 0,
-        y: 0,
-        stack: 0xFF,
-        status: Status::PS_DISABLE_INTERRUPTS.bits(),
-        counter: loops::START,
-        cycles: 0,
-        memory: image.to_vec(),
-    }
-}
+/// How long a core took, and the state and the memory in which it ended.
+type Run = (Duration, State, Vec<u8>);
 
 /// The Rust has no bounded run, and its `run` never ends on these images: a user would loop over its single step.
-fn time_rust(image: &[u8]) -> Result<(Duration, State), String> {
-    let state = start(image);
+fn time_rust(image: &[u8]) -> Result<Run, String> {
     let mut memory = Memory::new();
-    memory.set_bytes(0, &state.memory);
+    memory.set_bytes(0, image);
     let mut cpu = CPU::new(memory, Nmos6502);
-    cpu.registers.accumulator = state.accumulator;
-    cpu.registers.index_x = state.x;
-    cpu.registers.index_y = state.y;
-    cpu.registers.stack_pointer = StackPointer(state.stack);
-    cpu.registers.status = Status::from_bits_truncate(state.status);
-    cpu.registers.program_counter = state.counter;
-    cpu.cycles = state.cycles;
+    loops::START.put(&mut cpu);
     let begin = processor_time();
     for step in 0..STEPS {
         if !cpu.single_step() {
@@ -56,42 +36,38 @@ fn time_rust(image: &[u8]) -> Result<(Duration, State), String> {
         }
     }
     let time = processor_time() - begin;
-    let end = State {
-        accumulator: cpu.registers.accumulator,
-        x: cpu.registers.index_x,
-        y: cpu.registers.index_y,
-        stack: cpu.registers.stack_pointer.0,
-        status: cpu.registers.status.bits(),
-        counter: cpu.registers.program_counter,
-        cycles: cpu.cycles,
-        memory: (0..=0xFFFF)
-            .map(|address| cpu.memory.get_byte(address))
-            .collect(),
-    };
-    Ok((time, end))
+    let end = State::of(&cpu);
+    let memory = (0..=0xFFFF).map(|address| cpu.memory.get_byte(address));
+    Ok((time, end, memory.collect()))
 }
 
-fn time_port(image: &[u8]) -> Result<(Duration, State), String> {
-    let mut port = Port::new(start(image));
+fn time_port(image: &[u8]) -> Result<Run, String> {
+    let mut memory = image.to_vec();
+    let mut machine = machine_of(&loops::START);
     let begin = processor_time();
     let mut made = 0;
     while made < STEPS {
-        let bound = BOUND.min(STEPS - made);
-        let (answer, steps) = port.run(bound);
+        let bound = HIGHEST_BOUND.min(STEPS - made);
+        let RunAnswer::Made(Progress {
+            steps,
+            machine: after,
+        }) = port::run(machine, bound, &mut memory)
+        else {
+            return Err(format!("the port's run stopped after {made} steps"));
+        };
         made += steps;
-        if answer != 0 || steps != bound {
-            return Err(format!("the port answered {answer} after {made} steps"));
-        }
+        machine = after;
     }
     let time = processor_time() - begin;
-    Ok((time, port.into_state()))
+    Ok((time, state_of(&machine), memory))
 }
 
 /// One run on each core, and that they end alike.
 fn time_both(image: &[u8]) -> Result<[Duration; 2], String> {
-    let (rust_time, rust_end) = time_rust(image)?;
-    let (port_time, port_end) = time_port(image)?;
-    match difference(&rust_end, &port_end) {
+    let (rust_time, rust_end, rust_memory) = time_rust(image)?;
+    let (port_time, port_end, port_memory) = time_port(image)?;
+    let differs = difference(&rust_end, &port_end);
+    match differs.or_else(|| byte_difference(&rust_memory, &port_memory)) {
         None => Ok([rust_time, port_time]),
         Some(what) => Err(format!("the end states differ in {what}")),
     }

@@ -3,7 +3,18 @@
 //!
 //! No shift, rotate, INC or DEC is indexed by X over a page: there the Rust counts a cycle more than the manual.
 
-pub const START: u16 = 0x0200;
+use crate::state::State;
+
+pub const START: State = State {
+    counter: 0x0200,
+    accumulator: 0,
+    x: 0,
+    y: 0,
+    stack: 0xFF,
+    // Only I is set.
+    status: 0x04,
+    cycles: 0,
+};
 
 pub struct Loop {
     pub name: &'static str,
@@ -29,10 +40,10 @@ pub fn all() -> [Loop; 3] {
 
 fn image_of(code: &[u8]) -> Vec<u8> {
     let mut image = vec![0; 65_536];
-    let start = usize::from(START);
+    let start = usize::from(START.counter);
     image[start..start + code.len()].copy_from_slice(code);
     // The reset vector, so that the image also runs where a program starts by it.
-    image[0xFFFC..0xFFFE].copy_from_slice(&START.to_le_bytes());
+    image[0xFFFC..0xFFFE].copy_from_slice(&START.counter.to_le_bytes());
     image
 }
 
@@ -57,8 +68,8 @@ fn memory_copy() -> Vec<u8> {
         0xE6, 0x10, //       021A       INC $10     ss
         0x4C, 0x00, 0x02, // 021C       JMP round
     ]);
-    for address in 0x2000..0x6000 {
-        image[address] = (address * 7 + address / 256 * 13) as u8;
+    for (address, byte) in (0x2000_usize..0x6000).zip(&mut image[0x2000..]) {
+        *byte = (address * 7 + address / 256 * 13) as u8;
     }
     image
 }
