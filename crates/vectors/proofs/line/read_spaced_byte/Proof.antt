@@ -1,0 +1,12 @@
+-- A mark and a byte, as in the definition.
+use borrow.Author.Needs.{needs}
+use Rattle.vectors.specs.Lines.{spacedByteAt}
+use Rattle.vectors.proofs.line.read_spaced_byte.Statement.{statement}
+use Rattle.vectors.proofs.line.read_spaced_byte.Tie as tie
+
+returns : tie.Need-returns
+unfolding spacedByteAt
+returns c = rw (c .read-byte .ensures, c .before .read-mark .ensures)
+
+pub read-spaced-byte-spec : {M : Type 1} → statement M
+read-spaced-byte-spec = tie.close (tie.spec (search needs) (search needs) returns)
