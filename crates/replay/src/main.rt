@@ -19,7 +19,8 @@ struct Tally {
     differ: u64,
 }
 
-fn write_part(verdict: Verdict) {
+// Answers whether the text was written.
+fn write_part(verdict: Verdict) -> bool {
     match verdict {
         Verdict::Same => io::write_all(STDOUT_FILENO, b"same\n"),
         Verdict::Malformed => io::write_all(STDOUT_FILENO, b"malformed\n"),
@@ -33,7 +34,6 @@ fn write_part(verdict: Verdict) {
         Verdict::Cycles => io::write_all(STDOUT_FILENO, b"cycles\n"),
         Verdict::Memory => io::write_all(STDOUT_FILENO, b"memory\n"),
     }
-    ;
 }
 
 // Names a line that differs, and answers 1 for it.
