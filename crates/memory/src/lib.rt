@@ -65,6 +65,17 @@ pub fn get_byte(memory: &[u8], at: Address) -> u8
     memory[index]
 }
 
+// The same of a memory of any length: past its end stands 0.
+pub fn peek(memory: &[u8], at: Address) -> u8
+    ensures { λ r. ⌜ r ≡ getD (now (memory .entry)) (at .0) 0 ⌝ }
+{
+    let index = at.0 as usize;
+    if index < memory.len() {
+        return memory[index];
+    }
+    0
+}
+
 pub fn set_byte(memory: &mut [u8], at: Address, byte: u8)
     requires { ⌜ length (now memory) ≡ 65536 ⌝ }
     ensures { λ r. ⌜ now (memory .exit) ≡ set (now (memory .entry)) (at .0) byte ⌝ }

@@ -1,9 +1,11 @@
 // One line: its parts, and the step that it describes.
 ghost use mathlib.Core.Path.{_≡_};
-ghost use lib.ListN.{length, getD, replicate};
+ghost use lib.ListN.{length, replicate};
 ghost use Rattle.replay.specs.Verdicts.{endAt, wellFormed, lineAt, lineVerdict};
 use crate::compare::Verdict;
 use crate::compare::judge;
+use memory::Address;
+use memory::peek;
 use registers::Status;
 use vectors::NOWHERE;
 use vectors::State;
@@ -42,21 +44,11 @@ fn read_end(text: &[u8], at: usize) -> usize
     end
 }
 
-fn byte_at(memory: &[u8], address: u16) -> u8
-    ensures { λ r. ⌜ r ≡ getD (now (memory .entry)) address 0 ⌝ }
-{
-    let index = address as usize;
-    if index < memory.len() {
-        return memory[index];
-    }
-    0
-}
-
 // Whether a line names the opcode that its memory has, and a status that PHP can push: a wrong digit there changes no step.
 fn is_well_formed(opcode: u8, before: State, memory: &[u8]) -> bool
     ensures { λ r. ⌜ r ≡ wellFormed opcode before (now (memory .entry)) ⌝ }
 {
-    if opcode != byte_at(memory, before.counter) {
+    if opcode != peek(memory, Address(before.counter)) {
         return false;
     }
     Status::pulled(before.status).pushed() == before.status

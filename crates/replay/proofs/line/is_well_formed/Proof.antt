@@ -7,13 +7,13 @@ use Rattle.replay.proofs.line.is_well_formed.Tie as tie
 
 returns : tie.Need-returns
 unfolding wellFormed
-returns c = rw (← c .before .byte-at .ensures, ne-eqb _ _ (c .if1 .taken))
+returns c = rw (← c .before .peek .ensures, ne-eqb _ _ (c .if1 .taken))
 
 returns-2 : tie.Need-returns-2
 unfolding wellFormed
 returns-2 c =
     rw (
-      ← c .before .before .before .before .byte-at .ensures,
+      ← c .before .before .before .before .peek .ensures,
       eq-eqb _ _ (c .before .before .before .if1 .left),
       c .before .pushed .ensures,
       c .before .before .pulled .ensures,

@@ -1,0 +1,79 @@
+// Reports on images, a line for each: the one on standard input, or those in the files that are named, where `-` is
+// standard input. What the line says is promised by the crate reporting; here it is only read and written.
+ghost use mathlib.Core.Path.{_≡_};
+ghost use lib.ListN.{length};
+use cpu::RunAnswer;
+use libc::STDERR_FILENO;
+use libc::STDIN_FILENO;
+use libc::STDOUT_FILENO;
+use reporting::put_sentence;
+use reporting::report;
+
+// Room for an image and one byte more, so that a longer one shows.
+fn image_buffer() -> [u8; 65537]
+    ensures { λ r. ⌜ 65537 ≡ length r ⌝ }
+{
+    [0; 65537]
+}
+
+fn explain(answer: RunAnswer, image: &[u8]) {
+    let mut text = [0u8; 66];
+    let size = put_sentence(&mut text, 0, answer, image);
+    io::write_all(STDERR_FILENO, &text[..size]);
+}
+
+// The line goes to standard output. What it means is said on standard error, and only at a terminal.
+fn report_image(image: &mut [u8]) {
+    let mut text = [0u8; 66];
+    let reported = report(image, &mut text);
+    let size = reported.size;
+    if !io::write_all(STDOUT_FILENO, &text[..size]) {
+        os::fail(b"standard output");
+    }
+    if libc::isatty(STDERR_FILENO) == 1 {
+        let answer = reported.answer;
+        explain(answer, image);
+    }
+}
+
+fn report_from(input: i32) {
+    let mut image = image_buffer();
+    let size = io::read_full(input, &mut image);
+    report_image(&mut image[..size]);
+}
+
+fn report_file(name: &[u8]) {
+    let input = os::open_read(name);
+    if input < 0 {
+        os::fail(name);
+        return;
+    }
+    report_from(input);
+    libc::close(input);
+}
+
+fn report_argument(index: usize) {
+    let mut name = io::buffer();
+    let length = os::arg(index, &mut name);
+    if os::errno() != 0 {
+        os::fail(b"a file's name");
+        return;
+    }
+    if length == 1 && name[0] == b'-' {
+        report_from(STDIN_FILENO);
+    } else {
+        report_file(&name[..length]);
+    }
+}
+
+fn main() {
+    let count = os::arg_count();
+    if count < 2 {
+        report_from(STDIN_FILENO);
+    }
+    let mut index = 1;
+    while index < count {
+        report_argument(index);
+        index += 1;
+    }
+}

@@ -1,0 +1,50 @@
+-- By cases of the answer.
+use native.Mathlib.Omega.{arith}
+use Rattle.text.specs.Written.{then}
+use Rattle.reporting.specs.Sentence.{sentence}
+use borrow.Author.Needs.{needs}
+use Rattle.reporting.proofs.sentence.put_sentence.Statement.{statement}
+use Rattle.reporting.proofs.sentence.put_sentence.Tie as tie
+
+returns : tie.Need-returns
+unfolding sentence
+returns c =
+    let c₂ = c .before .before in
+    let wrote = c₂ .put-text .ensures in
+    rw (c₂ .before .before .before .enum-told .given .1) (wrote, omega (arith, wrote .ends))
+
+returns-2 : tie.Need-returns-2
+unfolding sentence
+returns-2 c =
+    let c₂ = c .before .before in
+    let wrote = c₂ .put-text2 .ensures in
+    rw (c₂ .before .before .before .enum-told2 .given .1) (wrote, omega (arith, wrote .ends))
+
+returns-3 : tie.Need-returns-3
+unfolding sentence
+returns-3 c =
+    let c₂ = c .before .before in
+    let wrote = c₂ .put-text3 .ensures in
+    rw (c₂ .before .before .before .enum-told3 .given .1) (wrote, omega (arith, wrote .ends))
+
+returns-4 : tie.Need-returns-4
+unfolding sentence
+returns-4 c =
+    let c₂ = c .before .before in
+    let c₇ = c₂ .before .before .before .before .before in
+    let c₁₁ = c₇ .before .before .before .before in
+    let c₁₆ = c₁₁ .before .before .before .before .before in
+    let c₂₁ = c₁₆ .before .before .before .before .before in
+    let named = then (c₂₁ .put-text4 .ensures) (rw (c₁₆ .before .peek .ensures) at (c₁₆ .put-hex2 .ensures)) in
+    let wrote = then (then (then named (c₁₁ .put-text5 .ensures)) (c₇ .put-hex4 .ensures)) (c₂ .put-text6 .ensures) in
+    rw (c₂₁ .before .before .before .before .answer .given .1) (wrote, omega (arith, wrote .ends))
+
+returns-5 : tie.Need-returns-5
+unfolding sentence
+returns-5 c =
+    let c₂ = c .before .before in
+    let wrote = c₂ .put-text7 .ensures in
+    rw (c₂ .before .before .before .enum-told4 .given .1) (wrote, omega (arith, wrote .ends))
+
+pub put-sentence-spec : {M : Type 1} → statement M
+put-sentence-spec = tie.close (tie.spec (search needs) (search needs) (search needs) (search needs) (search needs) (search needs) (search needs) (search needs) (search needs) (search needs) (search needs) (search needs) (search needs) (search needs) (search needs) (search needs) (search needs) (search needs) (search needs) (search needs) (search needs) (search needs) (search needs) returns (search needs) returns-2 (search needs) returns-3 (search needs) returns-4 (search needs) returns-5)

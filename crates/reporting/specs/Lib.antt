@@ -1,0 +1,4 @@
+pub mod Report
+pub mod Sentence
+pub mod Laws
+pub mod Theorems

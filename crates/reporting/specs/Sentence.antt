@@ -1,0 +1,18 @@
+-- What a run's answer means, in a sentence for whoever sits at the terminal. The image is the one that the run left.
+use Prim.Native.Nat.{ℕ}
+use mathlib.Core.List.{List, _++_}
+use lib.ListN.{getD}
+use Rattle.cpu.specs.declared.RunAnswer.{RunAnswer}
+use Rattle.text.specs.Numerals.{characters, hex2, hex4}
+
+unfoldable pub sentence : RunAnswer → List ℕ → List ℕ
+sentence (RunAnswer.Made p) image = characters "not finished: all 1000 steps were made, and there is more to do\n"
+sentence (RunAnswer.MemoryNotFull p) image = characters "refused: the image is not 65536 bytes long\n"
+sentence (RunAnswer.NoCycleRoom p) image = characters "stopped: the cycle count has no room for another step\n"
+sentence (RunAnswer.NotAnOpcode p) image =
+    characters "stopped: the byte "
+    ++ hex2 (getD image (p .machine .registers .counter) 0)
+    ++ characters " at "
+    ++ hex4 (p .machine .registers .counter)
+    ++ characters " is no documented opcode\n"
+sentence (RunAnswer.BoundTooHigh p) image = characters "refused: more than 1000000 steps were asked for\n"

@@ -1,0 +1,13 @@
+-- The high byte, then the low one.
+use Rattle.text.specs.Written.{then}
+use borrow.Author.Needs.{needs}
+use Rattle.text.proofs.put_hex4.Statement.{statement}
+use Rattle.text.proofs.put_hex4.Tie as tie
+
+returns : tie.Need-returns
+returns c =
+    let c₂ = c .before .before in
+    then (c₂ .before .before .before .before .put-hex2 .ensures) (c₂ .put-hex22 .ensures)
+
+pub put-hex4-spec : {M : Type 1} → statement M
+put-hex4-spec = tie.close (tie.spec (search needs) (search needs) (search needs) (search needs) (search needs) returns)
