@@ -5,9 +5,11 @@ mod parts;
 mod shrink;
 mod states;
 
+use std::io::IsTerminal;
 use std::process::ExitCode;
 
 use oracle::document;
+use oracle::edges;
 use oracle::known;
 use oracle::random::Random;
 
@@ -15,12 +17,19 @@ use oracle::options::Options;
 use pair::{Fault, Pair};
 
 const USAGE: &str = "usage: host/compare [--seed N] [--steps N] [--plant] [ARCHIVE]";
-/// A line of progress after so many steps.
-const STRIDE: u64 = 2_000_000;
+/// The line of progress is renewed after so many steps.
+const STRIDE: u64 = 1_000_000;
+
+/// The line of progress, at a terminal only; an empty one wipes it out.
+fn tell(line: &str) {
+    if std::io::stderr().is_terminal() {
+        eprint!("\r{line}\x1b[K");
+    }
+}
 
 /// The steps of a part and how many of them differ as is listed.
 struct Row {
-    name: &'static str,
+    name: String,
     steps: u64,
     listed: u64,
 }
@@ -33,26 +42,30 @@ struct Comparison {
 }
 
 impl Comparison {
+    /// What was made so far, or since an earlier such row.
+    fn row(&self, name: &str, since: Option<&Row>) -> Row {
+        let (steps, listed) = since.map_or((0, 0), |row| (row.steps, row.listed));
+        Row {
+            name: name.into(),
+            steps: self.pair.steps - steps,
+            listed: self.pair.listed.iter().sum::<u64>() - listed,
+        }
+    }
+
     fn part(
         &mut self,
-        name: &'static str,
+        name: &str,
         part: impl FnOnce(&mut Pair, &mut Random, &mut dyn FnMut(u64)) -> Result<(), Fault>,
     ) -> Result<(), Fault> {
-        let listed = |pair: &Pair| pair.listed.iter().sum::<u64>();
-        let before = (self.pair.steps, listed(&self.pair));
-        eprintln!("compare: {name}");
+        let before = self.row(name, None);
         let told = &mut self.told;
         part(&mut self.pair, &mut self.random, &mut |steps| {
             if steps - *told >= STRIDE {
                 *told = steps;
-                eprintln!("compare: {name}, {steps} steps so far");
+                tell(&format!("compare: {}, {steps} steps so far", name.trim()));
             }
         })?;
-        self.rows.push(Row {
-            name,
-            steps: self.pair.steps - before.0,
-            listed: listed(&self.pair) - before.1,
-        });
+        self.rows.push(self.row(name, Some(&before)));
         Ok(())
     }
 
@@ -61,33 +74,41 @@ impl Comparison {
         self.part("random states", |pair, random, mut progress| {
             parts::random_states(pair, random, steps.div_ceil(200), &mut progress)
         })?;
-        self.part("directed edges", |pair, random, mut progress| {
-            parts::directed_edges(pair, random, &mut progress)
-        })?;
+        self.directed_edges()?;
         self.part("all sums", |pair, random, _| parts::all_sums(pair, random))?;
         self.part("long runs", |pair, random, mut progress| {
             parts::long_runs(pair, random, steps.div_ceil(4), &mut progress)
         })
     }
 
+    /// A row for all of them, then one for each class.
+    fn directed_edges(&mut self) -> Result<(), Fault> {
+        let place = self.rows.len();
+        let before = self.row("", None);
+        let mut counts = Random::new(self.random.draw());
+        for (class, name) in edges::CLASSES {
+            self.part(&format!("  {name}"), |pair, random, mut progress| {
+                parts::directed_edges(pair, class, random, &mut counts, &mut progress)
+            })?;
+        }
+        let all = self.row("directed edges", Some(&before));
+        self.rows.insert(place, all);
+        Ok(())
+    }
+
     fn summary(&self) {
-        let listed: u64 = self.pair.listed.iter().sum();
         println!(
-            "{:16}{:>12}{:>12}{:>20}",
+            "{:26}{:>10}{:>12}{:>20}",
             "part", "steps", "equal", "listed difference"
         );
-        let all = Row {
-            name: "all",
-            steps: self.pair.steps,
-            listed,
-        };
+        let all = self.row("all", None);
         for Row {
             name,
             steps,
             listed,
         } in self.rows.iter().chain([&all])
         {
-            println!("{name:16}{steps:12}{:12}{listed:20}", steps - listed);
+            println!("{name:26}{steps:10}{:12}{listed:20}", steps - listed);
         }
         let fewest = document::all().map(|entry| self.pair.made[usize::from(entry.opcode)]);
         println!(
@@ -131,7 +152,9 @@ fn main() -> ExitCode {
         rows: Vec::new(),
         told: 0,
     };
-    match comparison.all(steps) {
+    let result = comparison.all(steps);
+    tell("");
+    match result {
         Ok(()) => {
             comparison.summary();
             ExitCode::SUCCESS

@@ -1,8 +1,7 @@
 //! The four parts of the comparison.
 
-use oracle::case::Case;
 use oracle::document;
-use oracle::edges;
+use oracle::edges::Class;
 use oracle::loops;
 use oracle::random::Random;
 use oracle::state::{State, byte_difference, difference};
@@ -44,15 +43,16 @@ pub fn random_states(
     pair.compare_all_bytes()
 }
 
+/// One class of them; the cycles have a generator of their own, since the class holds the other one.
 pub fn directed_edges(
     pair: &mut Pair,
+    class: Class,
     random: &mut Random,
+    counts: &mut Random,
     progress: &mut impl FnMut(u64),
 ) -> Result<(), Fault> {
-    // A generator of its own, since `each` holds the other one.
-    let mut counts = Random::new(random.draw());
-    edges::each(random, &mut |_, mut case: Case| {
-        case.state.cycles = random_cycles(&mut counts);
+    class.each(random, &mut |mut case| {
+        case.state.cycles = random_cycles(counts);
         pair.step_case(&case)?;
         if pair.steps.is_multiple_of(65_536) {
             progress(pair.steps);

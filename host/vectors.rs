@@ -58,10 +58,12 @@ fn chosen(random: &mut Random, of_opcode: usize, of_class: usize) -> Vec<Case> {
     }
     let mut choices = [(); CLASSES].map(|()| Choice::new(of_class));
     let mut draw = Random::new(random.draw());
-    let Ok(()) = edges::each(random, &mut |class, case| {
-        choices[class].offer(case, &mut draw);
-        Ok::<(), Infallible>(())
-    });
+    for ((class, _), choice) in edges::CLASSES.into_iter().zip(&mut choices) {
+        let Ok(()) = class.each(random, &mut |case| {
+            choice.offer(case, &mut draw);
+            Ok::<(), Infallible>(())
+        });
+    }
     let Ok(()) = sums::each(random, &mut |case| {
         choices[CLASSES - 1].offer(case, &mut draw);
         Ok::<(), Infallible>(())

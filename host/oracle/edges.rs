@@ -5,36 +5,49 @@ use crate::case::Case;
 use crate::document::{self, Entry, Kind, Mode};
 use crate::random::Random;
 
-/// The classes, by the number that `each` gives with a case.
-pub const CLASSES: [&str; 9] = [
-    "counter FFFC to 0002",
-    "S 00 01 02 FD FE FF",
-    "zero page FF and 00",
-    "page crosses",
-    "branches",
-    "JMP (xxFF)",
-    "code in the stack page",
-    "stores onto own bytes",
-    "BRK at edges",
+#[derive(Clone, Copy)]
+pub enum Class {
+    Counter,
+    Stack,
+    ZeroPage,
+    PageCrosses,
+    Branches,
+    IndirectJumps,
+    StackPage,
+    OwnBytes,
+    Breaks,
+}
+
+pub const CLASSES: [(Class, &str); 9] = [
+    (Class::Counter, "counter FFFC to 0002"),
+    (Class::Stack, "S 00 01 02 FD FE FF"),
+    (Class::ZeroPage, "zero page FE FF 00"),
+    (Class::PageCrosses, "page crosses"),
+    (Class::Branches, "branches"),
+    (Class::IndirectJumps, "JMP (xxFF)"),
+    (Class::StackPage, "code in the stack page"),
+    (Class::OwnBytes, "stores onto own bytes"),
+    (Class::Breaks, "BRK at edges"),
 ];
 
 /// Takes a case; a fault ends the whole.
 type Visit<'a, Fault> = dyn FnMut(Case) -> Result<(), Fault> + 'a;
 
-/// Hands over every directed case, with the number of its class.
-pub fn each<Fault>(
-    random: &mut Random,
-    visit: &mut impl FnMut(usize, Case) -> Result<(), Fault>,
-) -> Result<(), Fault> {
-    counter(random, &mut |case| visit(0, case))?;
-    stack(random, &mut |case| visit(1, case))?;
-    zero_page(random, &mut |case| visit(2, case))?;
-    page_crosses(random, &mut |case| visit(3, case))?;
-    branches(random, &mut |case| visit(4, case))?;
-    indirect_jumps(random, &mut |case| visit(5, case))?;
-    stack_page(random, &mut |case| visit(6, case))?;
-    own_bytes(random, &mut |case| visit(7, case))?;
-    breaks(random, &mut |case| visit(8, case))
+impl Class {
+    /// Hands over every case of the class.
+    pub fn each<Fault>(self, random: &mut Random, visit: &mut Visit<Fault>) -> Result<(), Fault> {
+        match self {
+            Class::Counter => counter(random, visit),
+            Class::Stack => stack(random, visit),
+            Class::ZeroPage => zero_page(random, visit),
+            Class::PageCrosses => page_crosses(random, visit),
+            Class::Branches => branches(random, visit),
+            Class::IndirectJumps => indirect_jumps(random, visit),
+            Class::StackPage => stack_page(random, visit),
+            Class::OwnBytes => own_bytes(random, visit),
+            Class::Breaks => breaks(random, visit),
+        }
+    }
 }
 
 const COUNTERS: [u16; 7] = [0xFFFC, 0xFFFD, 0xFFFE, 0xFFFF, 0x0000, 0x0001, 0x0002];
