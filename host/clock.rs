@@ -21,7 +21,7 @@ pub fn processor_time() -> Duration {
         seconds: 0,
         nanoseconds: 0,
     };
-    // Sound: the C library of x86-64 Linux writes two numbers of 64 bits.
+    // Sound: the C library of 64-bit Linux writes two numbers of 64 bits.
     let answer = unsafe { clock_gettime(CLOCK_PROCESS_CPUTIME_ID, &mut time) };
     assert!(answer == 0, "this system has no clock of processor time");
     Duration::new(time.seconds as u64, time.nanoseconds as u32)

@@ -1,8 +1,11 @@
-# What rate, compare, vectors and test have in common; each sets `name` and reads this in. An argument that ends in .a
-# is the port's archive, the others stay in "$@". It goes to the root of the repository.
-# shellcheck disable=SC2154
+# What the commands have in common; each sets `name`, and `machine` that its programs are for, and reads this in. An
+# argument that ends in .a is the port's archive, the others stay in "$@". It goes to the root of the repository.
+# shellcheck shell=sh disable=SC2154,SC2034
 
-out=target/host
+# docs/src is of edition 2024 and joins an `if let` by `&&`: older compilers than 1.88 refuse it.
+oldest=88
+
+out=target/host/$machine
 archive=
 for argument in "$@"; do
     shift
@@ -14,35 +17,63 @@ for argument in "$@"; do
 done
 cd "$(dirname "$0")/.." || exit 2
 
+# A program for another machine takes that machine's linker, and an emulator to run it.
+linker=cc emulator=
+if [ "$machine" != "$(uname -m)" ]; then
+    linker=$machine-linux-gnu-gcc emulator=qemu-$machine
+fi
+
 stop() {
     echo "host/$name: $2" >&2
     exit "$1"
 }
 
-# rust NAME ROOT OPTION...: release code, as cargo builds it, from one of this folder's roots.
+# find_rustc MACHINE: sets `rustc` to a compiler that is new enough and has that machine's standard library. Debian's
+# may stand behind another one on the PATH.
+find_rustc() {
+    for rustc in rustc /usr/bin/rustc; do
+        minor=$("$rustc" --version 2>/dev/null | sed -n 's/^rustc 1\.\([0-9]*\)\..*/\1/p')
+        [ "${minor:-0}" -ge "$oldest" ] || continue
+        libraries=$("$rustc" --print target-libdir --target "$1-unknown-linux-gnu")
+        [ -z "$(find "$libraries/" -name 'libstd-*.rlib' 2>/dev/null)" ] || return 0
+    done
+    return 1
+}
+
+# compile OPTION...: release code, as cargo builds it.
+compile() {
+    "$rustc" --target "$machine-unknown-linux-gnu" -C linker="$linker" -C opt-level=3 -L dependency="$out" "$@"
+}
+
+# rust NAME ROOT OPTION...: one of this folder's roots.
 rust() {
     target=$1 root=$2
     shift 2
-    rustc --edition 2024 -C opt-level=3 -L dependency=$out -o "$out/$target" "$@" "$root" ||
-        stop 1 "$root does not build"
+    compile --edition 2024 -o "$out/$target" "$@" "$root" || stop 1 "$root does not build"
 }
 
 # The Rust of docs/src, and the crate around it.
 build_oracle() {
-    host/build-oracle >&2 || exit $?
-    rust liboracle.rlib host/oracle/lib.rs --crate-type rlib --crate-name oracle --extern mos6502=$out/libmos6502.rlib
+    host/build-oracle "$machine" >&2 || exit $?
+    find_rustc "$machine"
+    rust liboracle.rlib host/oracle/lib.rs --crate-type rlib --crate-name oracle --extern mos6502="$out/libmos6502.rlib"
+}
+
+need_rt() {
+    command -v rt >/dev/null || stop 2 "the Rattle toolchain is missing: there is no command 'rt' on the PATH"
 }
 
 # The port's archive, proved and built anew where none is given and it is missing or older than a source.
 find_archive() {
-    [ "$(uname -m)" = x86_64 ] ||
-        stop 2 "the port's archive is for x86_64 and this machine is $(uname -m)"
     if [ -z "$archive" ]; then
-        archive=target/staticlib/libmos6502.a
-        if [ ! -f $archive ] || [ -n "$(find crates crates.txt -newer $archive | head -n 1)" ]; then
-            command -v rt >/dev/null || stop 2 "the Rattle toolchain is missing: there is no command 'rt' on the PATH"
-            echo "host/$name: rt staticlib mos6502" >&2
-            rt staticlib mos6502 >&2 || stop 1 "rt did not build $archive"
+        case $machine in
+        x86_64) archive=target/staticlib/libmos6502.a builder='rt staticlib mos6502' ;;
+        *) archive=$out/libmos6502.a builder=host/native-archive ;;
+        esac
+        if [ ! -f "$archive" ] || [ -n "$(find crates crates.txt -newer "$archive" | head -n 1)" ]; then
+            need_rt
+            echo "host/$name: $builder" >&2
+            $builder >&2 || stop 1 "$builder did not build $archive"
         fi
     fi
     [ -f "$archive" ] || stop 2 "there is no archive $archive"
@@ -55,8 +86,8 @@ build_port() {
 
 # program NAME: one of the programs that run both cores.
 program() {
-    rust "$1" "host/$1.rs" --extern mos6502=$out/libmos6502.rlib --extern oracle=$out/liboracle.rlib \
-        --extern port=$out/libport.rlib -C link-arg="$archive"
+    rust "$1" "host/$1.rs" --extern mos6502="$out/libmos6502.rlib" --extern oracle="$out/liboracle.rlib" \
+        --extern port="$out/libport.rlib" -C link-arg="$archive"
 }
 
 # What the archive is: it names the logic that proved it, and only rt writes that mark.
