@@ -18,7 +18,7 @@ use pair::{Fault, Pair};
 
 const USAGE: &str = "usage: host/compare [--seed N] [--steps N] [--plant] [ARCHIVE]";
 /// The line of progress is renewed after so many steps.
-const STRIDE: u64 = 1_000_000;
+const STRIDE: u64 = 250_000;
 
 /// The line of progress, at a terminal only; an empty one wipes it out.
 fn tell(line: &str) {

@@ -43,7 +43,7 @@ pub fn random_states(
     pair.compare_all_bytes()
 }
 
-/// One class of them; the cycles have a generator of their own, since the class holds the other one.
+/// One class of them. The cycles have a generator of their own, since the class holds the other one.
 pub fn directed_edges(
     pair: &mut Pair,
     class: Class,

@@ -18,9 +18,10 @@ done
 cd "$(dirname "$0")/.." || exit 2
 
 # A program for another machine takes that machine's linker, and an emulator to run it.
-linker=cc emulator=
+cross='' emulator=''
 if [ "$machine" != "$(uname -m)" ]; then
-    linker=$machine-linux-gnu-gcc emulator=qemu-$machine
+    cross="--target $machine-unknown-linux-gnu -C linker=$machine-linux-gnu-gcc"
+    emulator=qemu-$machine
 fi
 
 stop() {
@@ -42,7 +43,9 @@ find_rustc() {
 
 # compile OPTION...: release code, as cargo builds it.
 compile() {
-    "$rustc" --target "$machine-unknown-linux-gnu" -C linker="$linker" -C opt-level=3 -L dependency="$out" "$@"
+    # The options are split into their words on purpose.
+    # shellcheck disable=SC2086
+    "$rustc" $cross -C opt-level=3 -L dependency="$out" "$@"
 }
 
 # rust NAME ROOT OPTION...: one of this folder's roots.
