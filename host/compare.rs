@@ -16,7 +16,7 @@ use oracle::random::Random;
 use oracle::options::Options;
 use pair::{Fault, Pair};
 
-const USAGE: &str = "usage: host/compare [--seed N] [--steps N] [--plant] [ARCHIVE]";
+const USAGE: &str = "usage: host/compare [--native] [--seed N] [--steps N] [--plant] [ARCHIVE]";
 /// The line of progress is renewed after so many steps.
 const STRIDE: u64 = 250_000;
 
