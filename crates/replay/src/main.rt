@@ -1,5 +1,6 @@
-// Replays a list of the oracle's answers through the proved core: every line of standard input is one step, in the
-// form of the crate vectors. It names each line that differs, and at the end how many did.
+// Makes the steps of a list again, which the Rust has made, and says how many differ.
+//
+// Every line of standard input is one step, in the form of the crate vectors. Each line that differs is named.
 ghost use Prim.Native.Nat.{_≤_};
 ghost use mathlib.Core.Path.{_≡_};
 ghost use lib.ListN.{length};

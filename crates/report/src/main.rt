@@ -1,5 +1,7 @@
-// Reports on images, a line for each: the one on standard input, or those in the files that are named, where `-` is
-// standard input. What the line says is promised by the crate reporting; here it is only read and written.
+// Prints a line about an image of 65,536 bytes: how its run ended, and where.
+//
+// The image is standard input, or those in the files that are named, where `-` is standard input. What the line says is
+// promised by the crate reporting; here it is only read and written.
 ghost use mathlib.Core.Path.{_≡_};
 ghost use lib.ListN.{length};
 use cpu::RunAnswer;

@@ -6,7 +6,7 @@ use Rattle.cpu.specs.declared.RunAnswer.{RunAnswer}
 use Rattle.text.specs.Numerals.{characters, hex2, hex4}
 
 unfoldable pub sentence : RunAnswer → List ℕ → List ℕ
-sentence (RunAnswer.Made p) image = characters "not finished: all 1000 steps were made, and there is more to do\n"
+sentence (RunAnswer.Made p) image = characters "not finished: the program was still running after 1000 steps\n"
 sentence (RunAnswer.MemoryNotFull p) image = characters "refused: the image is not 65536 bytes long\n"
 sentence (RunAnswer.NoCycleRoom p) image = characters "stopped: the cycle count has no room for another step\n"
 sentence (RunAnswer.NotAnOpcode p) image =

@@ -18,7 +18,7 @@ pub fn put_sentence(out: &mut [u8], at: usize, answer: RunAnswer, image: &[u8]) 
         RunAnswer::Made(_) => put_text(
             out,
             at,
-            b"not finished: all 1000 steps were made, and there is more to do\n",
+            b"not finished: the program was still running after 1000 steps\n",
         ),
         RunAnswer::MemoryNotFull(_) => put_text(
             out,
