@@ -38,7 +38,7 @@ fn write_part(verdict: Verdict) -> bool {
 }
 
 // Names a line that differs, and answers 1 for it.
-fn report(line: u64, verdict: Verdict) -> u64
+fn tell(line: u64, verdict: Verdict) -> u64
     ensures { λ r. ⌜ r ≡ faults verdict ⌝ }
     ensures { λ r. ⌜ r ≤ 1 ⌝ }
 {
@@ -63,7 +63,7 @@ fn replay(text: &[u8]) -> Tally
     while at < text.len() {
         lines += 1;
         let verdict = replay_line(text, at, &mut memory, &mut expected);
-        differ += report(lines, verdict);
+        differ += tell(lines, verdict);
         at = next_line(text, at);
     }
     Tally {

@@ -8,7 +8,8 @@ use borrow.Author.Tests.{eq-eqb, ne-eqb}
 use Rattle.manual.specs.Micro.{exec, Gives}
 use Rattle.manual.specs.Words.{joined}
 use Rattle.manual.specs.Stepping.{Finished, finished, fullMemory, run}
-use Rattle.text.specs.Numerals.{decimal, decimal-length}
+use Rattle.text.specs.Numerals.{decimal}
+use Rattle.text.specs.Laws.{decimal-length}
 use Rattle.reporting.specs.Report.{start, imageRun, machineFields, allFields}
 
 module _ (size : ℕ) (m : List ℕ) where

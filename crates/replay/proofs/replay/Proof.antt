@@ -40,8 +40,8 @@ slice-aggregate-replay-line-2 c = search needs
 replay-line-requires : tie.Need-replay-line-requires Inv-loop μ-loop
 replay-line-requires c κs = search needs
 
-report-requires : tie.Need-report-requires Inv-loop μ-loop
-report-requires c κs = search needs
+tell-requires : tie.Need-tell-requires Inv-loop μ-loop
+tell-requires c κs = search needs
 
 add-differ : tie.Need-add-differ Inv-loop μ-loop
 add-differ c = search needs
@@ -55,16 +55,16 @@ loop-less c = omega (arith, c .next-line .ensures .1 (omega arith))
 loop-again : tie.Need-loop-again Inv-loop μ-loop
 loop-again c = (
   omega (arith, c .next-line .ensures .1 (omega arith)),
-  omega (arith, c .before .report .ensures .1),
+  omega (arith, c .before .tell .ensures .1),
   search needs,
   search needs,
   c .before .before .before .before .before .before .before .before .loop .inv .4
       ∙ tally-more (now (c .before .before .before .before .before .before .before .before .before .before .before .before .args .text)) (c .before .before .before .before .before .before .before .before .loop .at) (c .before .before .before .before .before .before .before .before .loop .lines) (c .before .before .before .before .before .before .before .before .loop .differ) (c .before .before .before .before .before .before .before .before .loop .inv .0) (omega arith)
-      ∙ rw (c .next-line .ensures .0, c .before .report .ensures .0, c .before .before .before .before .replay-line .ensures),
+      ∙ rw (c .next-line .ensures .0, c .before .tell .ensures .0, c .before .before .before .before .replay-line .ensures),
 )
 
 returns : tie.Need-returns Inv-loop μ-loop
 returns c = sym (c .before .loop .inv .4 ∙ tally-end _ _ _ _ _ (omega arith))
 
 pub replay-spec : {M : Type 1} → statement M
-replay-spec = tie.close (tie.spec Inv-loop μ-loop large-buffer-requires large-buffer-requires-2 loop-holds add-lines slice-aggregate-replay-line slice-aggregate-replay-line-2 replay-line-requires report-requires add-differ next-line-requires loop-less loop-again returns)
+replay-spec = tie.close (tie.spec Inv-loop μ-loop large-buffer-requires large-buffer-requires-2 loop-holds add-lines slice-aggregate-replay-line slice-aggregate-replay-line-2 replay-line-requires tell-requires add-differ next-line-requires loop-less loop-again returns)

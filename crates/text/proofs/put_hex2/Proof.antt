@@ -1,5 +1,5 @@
 -- One digit after the other.
-use Rattle.text.specs.Written.{then}
+use Rattle.text.specs.Laws.{then}
 use borrow.Author.Needs.{needs}
 use Rattle.text.proofs.put_hex2.Statement.{statement}
 use Rattle.text.proofs.put_hex2.Tie as tie

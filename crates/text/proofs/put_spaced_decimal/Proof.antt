@@ -1,5 +1,5 @@
 -- The space, then the digits.
-use Rattle.text.specs.Written.{then}
+use Rattle.text.specs.Laws.{then}
 use borrow.Author.Needs.{needs}
 use Rattle.text.proofs.put_spaced_decimal.Statement.{statement}
 use Rattle.text.proofs.put_spaced_decimal.Tie as tie

@@ -1,6 +1,6 @@
 -- One field after the other; none is longer than its number can be.
 use native.Mathlib.Omega.{arith}
-use Rattle.text.specs.Written.{then}
+use Rattle.text.specs.Laws.{then}
 use Rattle.reporting.specs.Report.{allFields}
 use Rattle.reporting.specs.Laws.{fields-fit}
 use borrow.Author.Needs.{needs}

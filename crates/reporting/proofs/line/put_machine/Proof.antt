@@ -1,5 +1,5 @@
 -- One field after the other.
-use Rattle.text.specs.Written.{then}
+use Rattle.text.specs.Laws.{then}
 use Rattle.reporting.specs.Report.{machineFields}
 use borrow.Author.Needs.{needs}
 use Rattle.reporting.proofs.line.put_machine.Statement.{statement}

@@ -1,6 +1,6 @@
 -- By cases of the answer.
 use native.Mathlib.Omega.{arith}
-use Rattle.text.specs.Written.{then}
+use Rattle.text.specs.Laws.{then}
 use Rattle.reporting.specs.Sentence.{sentence}
 use borrow.Author.Needs.{needs}
 use Rattle.reporting.proofs.sentence.put_sentence.Statement.{statement}

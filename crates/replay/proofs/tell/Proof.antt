@@ -8,8 +8,8 @@ use types.Run
 use Rattle.replay.proofs.compare.Verdict as verdict
 use Rattle.replay.specs.declared.compare.Verdict.{Verdict}
 use Rattle.replay.specs.Verdicts.{faults}
-use Rattle.replay.proofs.report.Statement.{statement}
-use Rattle.replay.proofs.report.Tie as tie
+use Rattle.replay.proofs.tell.Statement.{statement}
+use Rattle.replay.proofs.tell.Tie as tie
 
 one-fault : (v : Verdict) → Run.OneOf (1 ∷ 2 ∷ 3 ∷ 4 ∷ 5 ∷ 6 ∷ 7 ∷ 8 ∷ 9 ∷ 10 ∷ []) (Declared.tagOf verdict.the-type v) → 1 ≡ faults v
 one-fault Verdict.Same h = absurd (Run.miss (1 ∷ 2 ∷ 3 ∷ 4 ∷ 5 ∷ 6 ∷ 7 ∷ 8 ∷ 9 ∷ 10 ∷ []) 0 tt h)
@@ -30,5 +30,5 @@ returns c = search needs
 returns-2 : tie.Need-returns-2
 returns-2 c = (one-fault (c .before .before .before .before .before .before .before .args .verdict) (c .before .before .before .before .before .before .match .keys2), omega arith)
 
-pub report-spec : {M : Type 1} → statement M
-report-spec = tie.close (tie.spec (search needs) returns (search needs) (search needs) (search needs) (search needs) (search needs) (search needs) returns-2)
+pub tell-spec : {M : Type 1} → statement M
+tell-spec = tie.close (tie.spec (search needs) returns (search needs) (search needs) (search needs) (search needs) (search needs) (search needs) returns-2)
