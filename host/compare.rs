@@ -145,7 +145,7 @@ fn main() -> ExitCode {
         if plant { ", with a planted fault" } else { "" }
     );
     let mut random = Random::new(seed);
-    let pair = Pair::new(parts::random_memory(&mut random), plant);
+    let pair = Pair::new(random.memory(), plant);
     let mut comparison = Comparison {
         random,
         pair,

@@ -11,13 +11,6 @@ use port::{HIGHEST_BOUND, HIGHEST_CYCLES, RunAnswer, StepAnswer};
 use crate::pair::{Fault, Pair};
 use crate::states::{machine_of, state_of};
 
-/// A memory of random bytes.
-pub fn random_memory(random: &mut Random) -> Vec<u8> {
-    (0..65_536 / 8)
-        .flat_map(|_| random.draw().to_le_bytes())
-        .collect()
-}
-
 /// Any count with room for a step; one in four is among the last.
 fn random_cycles(random: &mut Random) -> u64 {
     match random.below(4) {
@@ -87,7 +80,7 @@ pub fn long_runs(
     }
     while pair.steps < end {
         let last = end.min(pair.steps + LONGEST);
-        let (memory, start) = (random_memory(random), random.state());
+        let (memory, start) = (random.memory(), random.state());
         long_run(pair, memory, start, last, || {
             opcodes[random.below(opcodes.len())]
         })?;

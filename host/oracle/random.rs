@@ -61,6 +61,13 @@ impl Random {
         }
     }
 
+    /// A memory of random bytes.
+    pub fn memory(&mut self) -> Vec<u8> {
+        (0..65_536 / 8)
+            .flat_map(|_| self.draw().to_le_bytes())
+            .collect()
+    }
+
     /// Bits 4 and 5 of the status are random too: the Rust may hold anything there.
     pub fn state(&mut self) -> State {
         State {

@@ -24,20 +24,7 @@ pub struct State {
 /// Counter, A, X, Y, S, the status as PHP pushes it, cycles.
 impl Display for State {
     fn fmt(&self, formatter: &mut Formatter) -> Result {
-        let State {
-            counter,
-            accumulator,
-            x,
-            y,
-            stack,
-            status,
-            cycles,
-        } = self;
-        let status = status | !FLAGS;
-        write!(
-            formatter,
-            "{counter:04X} {accumulator:02X} {x:02X} {y:02X} {stack:02X} {status:02X} {cycles}"
-        )
+        write!(formatter, "{} {}", self.registers(), self.cycles)
     }
 }
 
@@ -62,6 +49,21 @@ impl State {
         cpu.registers.stack_pointer = StackPointer(self.stack);
         cpu.registers.status = Status::from_bits_truncate(self.status);
         cpu.cycles = self.cycles;
+    }
+
+    /// The same without the cycles.
+    #[must_use]
+    pub fn registers(&self) -> String {
+        let State {
+            counter,
+            accumulator,
+            x,
+            y,
+            stack,
+            status,
+            ..
+        } = self.with_six_flags();
+        format!("{counter:04X} {accumulator:02X} {x:02X} {y:02X} {stack:02X} {status:02X}")
     }
 
     #[must_use]
