@@ -4,6 +4,7 @@ use mathlib.Core.Bool.{true, false, cond}
 use mathlib.Core.List.{List, _++_}
 use lib.Dec.{eqb}
 use lib.ListN.{length, getD}
+use Rattle.registers.specs.declared.Registers.{Registers}
 use Rattle.registers.specs.StatusByte.{pushedByte}
 use Rattle.manual.specs.declared.Machine.{Machine}
 use Rattle.manual.specs.Micro.{Micro, done, _>>=_, byte, exec}
@@ -34,16 +35,18 @@ imageRun size =
       run size 1000 (start (joined h l)))
     (done (finished 1 0 (start 0)))
 
--- the last seven fields: cycles, counter, A, X, Y, S, and the status as PHP pushes it
+-- A, X, Y, S, and the status as PHP pushes it
+abbrev pub registerFields : Registers → List ℕ
+registerFields r =
+    spaced (hex2 (r .accumulator))
+    ++ spaced (hex2 (r .x))
+    ++ spaced (hex2 (r .y))
+    ++ spaced (hex2 (r .stack .0))
+    ++ spaced (hex2 (pushedByte (r .status)))
+
+-- the last seven fields: the cycles and the counter stand before them
 unfoldable pub machineFields : Machine → List ℕ
-machineFields s =
-    decimal (s .cycles)
-    ++ spaced (hex4 (s .registers .counter))
-    ++ spaced (hex2 (s .registers .accumulator))
-    ++ spaced (hex2 (s .registers .x))
-    ++ spaced (hex2 (s .registers .y))
-    ++ spaced (hex2 (s .registers .stack .0))
-    ++ spaced (hex2 (pushedByte (s .registers .status)))
+machineFields s = decimal (s .cycles) ++ spaced (hex4 (s .registers .counter)) ++ registerFields (s .registers)
 
 -- the reason and the number of steps before them
 unfoldable pub allFields : Finished → List ℕ

@@ -3,10 +3,11 @@ ghost use Prim.Native.Nat.{_+_, _≤_};
 ghost use Rattle.manual.specs.Stepping.{finished};
 ghost use Rattle.cpu.specs.Answers.{runResult};
 ghost use Rattle.text.specs.Written.{Wrote};
-ghost use Rattle.reporting.specs.Report.{machineFields, allFields, line};
+ghost use Rattle.reporting.specs.Report.{registerFields, machineFields, allFields, line};
 use cpu::Progress;
 use cpu::RunAnswer;
 use manual::Machine;
+use registers::Registers;
 use text::put_byte;
 use text::put_decimal;
 use text::put_spaced_decimal;
@@ -14,17 +15,23 @@ use text::put_spaced_hex2;
 use text::put_spaced_hex4;
 use text::put_text;
 
+fn put_registers(out: &mut [u8], at: usize, registers: Registers) -> usize
+    ensures { λ r. ⌜ Wrote (now (out .entry)) at (registerFields registers) (now (out .exit)) r ⌝ }
+{
+    let after_accumulator = put_spaced_hex2(out, at, registers.accumulator);
+    let after_x = put_spaced_hex2(out, after_accumulator, registers.x);
+    let after_y = put_spaced_hex2(out, after_x, registers.y);
+    let after_stack = put_spaced_hex2(out, after_y, registers.stack.0);
+    put_spaced_hex2(out, after_stack, registers.status.pushed())
+}
+
 pub fn put_machine(out: &mut [u8], at: usize, machine: Machine) -> usize
     ensures { λ r. ⌜ Wrote (now (out .entry)) at (machineFields machine) (now (out .exit)) r ⌝ }
 {
     let registers = machine.registers;
     let after_cycles = put_decimal(out, at, machine.cycles);
     let after_counter = put_spaced_hex4(out, after_cycles, registers.counter);
-    let after_accumulator = put_spaced_hex2(out, after_counter, registers.accumulator);
-    let after_x = put_spaced_hex2(out, after_accumulator, registers.x);
-    let after_y = put_spaced_hex2(out, after_x, registers.y);
-    let after_stack = put_spaced_hex2(out, after_y, registers.stack.0);
-    put_spaced_hex2(out, after_stack, registers.status.pushed())
+    put_registers(out, after_counter, registers)
 }
 
 fn put_fields(out: &mut [u8], at: usize, reason: u8, progress: Progress) -> usize

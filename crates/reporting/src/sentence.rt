@@ -1,13 +1,23 @@
 // What a run's answer means, for whoever sits at the terminal.
 ghost use Prim.Native.Nat.{_+_, _≤_};
 ghost use Rattle.text.specs.Written.{Wrote};
-ghost use Rattle.reporting.specs.Sentence.{sentence};
+ghost use Rattle.reporting.specs.Sentence.{stop, sentence};
 use cpu::RunAnswer;
 use memory::Address;
 use memory::peek;
 use text::put_hex2;
 use text::put_hex4;
 use text::put_text;
+
+fn put_stop(out: &mut [u8], at: usize, byte: u8, counter: u16) -> usize
+    ensures { λ r. ⌜ Wrote (now (out .entry)) at (stop byte counter) (now (out .exit)) r ⌝ }
+{
+    let after_stopped = put_text(out, at, b"stopped: the byte ");
+    let after_byte = put_hex2(out, after_stopped, byte);
+    let after_at = put_text(out, after_byte, b" at ");
+    let after_counter = put_hex4(out, after_at, counter);
+    put_text(out, after_counter, b" is no documented opcode\n")
+}
 
 // `image` is the one that the run left: it may have changed the byte that stopped it.
 pub fn put_sentence(out: &mut [u8], at: usize, answer: RunAnswer, image: &[u8]) -> usize
@@ -32,11 +42,7 @@ pub fn put_sentence(out: &mut [u8], at: usize, answer: RunAnswer, image: &[u8]) 
         ),
         RunAnswer::NotAnOpcode(progress) => {
             let counter = progress.machine.registers.counter;
-            let after_stopped = put_text(out, at, b"stopped: the byte ");
-            let after_byte = put_hex2(out, after_stopped, peek(image, Address(counter)));
-            let after_at = put_text(out, after_byte, b" at ");
-            let after_counter = put_hex4(out, after_at, counter);
-            put_text(out, after_counter, b" is no documented opcode\n")
+            put_stop(out, at, peek(image, Address(counter)), counter)
         }
         RunAnswer::BoundTooHigh(_) => put_text(
             out,

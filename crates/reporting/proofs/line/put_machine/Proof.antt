@@ -9,15 +9,8 @@ returns : tie.Need-returns
 unfolding machineFields
 returns c =
     let c₂ = c .before .before in
-    let c₇ = c₂ .before .before .before .before .before in
-    let c₁₁ = c₇ .before .before .before .before in
-    let c₁₅ = c₁₁ .before .before .before .before in
-    let c₁₉ = c₁₅ .before .before .before .before in
-    let c₂₃ = c₁₉ .before .before .before .before in
-    let c₂₇ = c₂₃ .before .before .before .before in
-    let counted = then (c₂₇ .put-decimal .ensures) (c₂₃ .put-spaced-hex4 .ensures) in
-    let indexed = then (then (then counted (c₁₉ .put-spaced-hex2 .ensures)) (c₁₅ .put-spaced-hex22 .ensures)) (c₁₁ .put-spaced-hex23 .ensures) in
-    rw (← c₂ .before .pushed .ensures) (then (then indexed (c₇ .put-spaced-hex24 .ensures)) (c₂ .put-spaced-hex25 .ensures))
+    let c₆ = c₂ .before .before .before .before in
+    then (then (c₆ .before .before .before .before .put-decimal .ensures) (c₆ .put-spaced-hex4 .ensures)) (c₂ .put-registers .ensures)
 
 pub put-machine-spec : {M : Type 1} → statement M
-put-machine-spec = tie.close (tie.spec (search needs) (search needs) (search needs) (search needs) (search needs) (search needs) (search needs) (search needs) (search needs) returns)
+put-machine-spec = tie.close (tie.spec (search needs) (search needs) (search needs) (search needs) returns)

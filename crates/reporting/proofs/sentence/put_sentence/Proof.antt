@@ -1,6 +1,5 @@
 -- By cases of the answer.
 use native.Mathlib.Omega.{arith}
-use Rattle.text.specs.Laws.{then}
 use Rattle.reporting.specs.Sentence.{sentence}
 use borrow.Author.Needs.{needs}
 use Rattle.reporting.proofs.sentence.put_sentence.Statement.{statement}
@@ -31,20 +30,15 @@ returns-4 : tie.Need-returns-4
 unfolding sentence
 returns-4 c =
     let c₂ = c .before .before in
-    let c₇ = c₂ .before .before .before .before .before in
-    let c₁₁ = c₇ .before .before .before .before in
-    let c₁₆ = c₁₁ .before .before .before .before .before in
-    let c₂₁ = c₁₆ .before .before .before .before .before in
-    let named = then (c₂₁ .put-text4 .ensures) (rw (c₁₆ .before .peek .ensures) at (c₁₆ .put-hex2 .ensures)) in
-    let wrote = then (then (then named (c₁₁ .put-text5 .ensures)) (c₇ .put-hex4 .ensures)) (c₂ .put-text6 .ensures) in
-    rw (c₂₁ .before .before .before .before .answer .given .1) (wrote, omega (arith, wrote .ends))
+    let wrote = rw (c₂ .before .peek .ensures) at (c₂ .put-stop .ensures) in
+    rw (c₂ .before .before .before .before .answer .given .1) (wrote, omega (arith, wrote .ends))
 
 returns-5 : tie.Need-returns-5
 unfolding sentence
 returns-5 c =
     let c₂ = c .before .before in
-    let wrote = c₂ .put-text7 .ensures in
+    let wrote = c₂ .put-text4 .ensures in
     rw (c₂ .before .before .before .enum-told4 .given .1) (wrote, omega (arith, wrote .ends))
 
 pub put-sentence-spec : {M : Type 1} → statement M
-put-sentence-spec = tie.close (tie.spec (search needs) (search needs) (search needs) (search needs) (search needs) (search needs) (search needs) (search needs) (search needs) (search needs) (search needs) (search needs) (search needs) (search needs) (search needs) (search needs) (search needs) (search needs) (search needs) (search needs) (search needs) (search needs) (search needs) returns (search needs) returns-2 (search needs) returns-3 (search needs) returns-4 (search needs) returns-5)
+put-sentence-spec = tie.close (tie.spec (search needs) (search needs) (search needs) (search needs) (search needs) (search needs) (search needs) (search needs) (search needs) (search needs) (search needs) (search needs) (search needs) (search needs) (search needs) (search needs) returns (search needs) returns-2 (search needs) returns-3 (search needs) returns-4 (search needs) returns-5)
