@@ -18,6 +18,7 @@ fn image_buffer() -> [u8; 65537]
     [0; 65537]
 }
 
+// 66 is the most that a sentence or a line can have: see `put_sentence` and `report`.
 fn explain(answer: RunAnswer, image: &[u8]) {
     let mut text = [0u8; 66];
     let size = put_sentence(&mut text, 0, answer, image);

@@ -3,12 +3,12 @@ use Prim.Native.Nat.{ℕ}
 use mathlib.Core.Bool.{true, false, cond}
 use mathlib.Core.List.{List, _++_}
 use lib.Dec.{eqb}
-use lib.ListN.{length, getD}
+use lib.ListN.{length}
 use Rattle.registers.specs.declared.Registers.{Registers}
 use Rattle.registers.specs.StatusByte.{pushedByte}
 use Rattle.manual.specs.declared.Machine.{Machine}
-use Rattle.manual.specs.Micro.{Micro, done, _>>=_, byte, exec}
-use Rattle.manual.specs.Words.{joined}
+use Rattle.manual.specs.Micro.{Micro, done, _>>=_, exec}
+use Rattle.manual.specs.Addressing.{word}
 use Rattle.manual.specs.Stepping.{Finished, finished, fullMemory, run}
 use Rattle.text.specs.Numerals.{characters, hex2, hex4, decimal, spaced}
 
@@ -30,9 +30,8 @@ start counter = record {
 unfoldable pub imageRun : ℕ → Micro Finished
 imageRun size =
     cond (eqb size fullMemory) (do
-      l ← byte 0xFFFC
-      h ← byte 0xFFFD
-      run size 1000 (start (joined h l)))
+      first ← word 0xFFFC 0xFFFD
+      run size 1000 (start first))
     (done (finished 1 0 (start 0)))
 
 -- A, X, Y, S, and the status as PHP pushes it

@@ -1,14 +1,12 @@
 -- What the definition of the report gives.
-use Prim.Native.Nat.{ℕ, _+_, _*_, _<_, _≤_}
-use mathlib.Core.Path.{_≡_, refl, ap, sym, _∙_}
-use mathlib.Core.Bool.{true, false}
+use Prim.Native.Nat.{ℕ, _*_, _<_, _≤_}
+use mathlib.Core.Path.{_≡_, refl, ap, _∙_}
 use mathlib.Core.List.{List, [], _∷_}
 use mathlib.Core.Logic.{_⊎_, inl, inr}
 use native.Mathlib.Omega.{arith}
 use lib.ListN.{length, getD}
-use borrow.Author.Tests.{ne-eqb}
 use Rattle.registers.specs.State.{setA, setPC, setStatus, setNZ, flags}
-use Rattle.registers.specs.StatusByte.{pushedByte, pulledStatus}
+use Rattle.registers.specs.StatusByte.{pushedByte}
 use Rattle.instruction.specs.Opcodes.{rows, decoded}
 use Rattle.manual.specs.declared.Machine.{Machine}
 use Rattle.manual.specs.Micro.{exec, Gives}

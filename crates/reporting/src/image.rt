@@ -41,7 +41,7 @@ fn start(counter: u16) -> Machine
     }
 }
 
-pub fn run_image(image: &mut [u8]) -> RunAnswer
+pub(crate) fn run_image(image: &mut [u8]) -> RunAnswer
     ensures { λ r. ⌜ Gives (imageRun (length (now (image .entry)))) (now (image .entry)) (runResult r) (now (image .exit)) ⌝ }
 {
     if image.len() != 65536 {

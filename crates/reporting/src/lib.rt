@@ -1,5 +1,4 @@
 // The work of the program report, as document 01 has it: an image is run, and a line says how that ended.
-ghost use mathlib.Core.Path.{_≡_};
 ghost use Prim.Native.Nat.{_≤_};
 ghost use lib.ListN.{length};
 ghost use Rattle.manual.specs.Micro.{Gives};

@@ -25,7 +25,7 @@ fn put_registers(out: &mut [u8], at: usize, registers: Registers) -> usize
     put_spaced_hex2(out, after_stack, registers.status.pushed())
 }
 
-pub fn put_machine(out: &mut [u8], at: usize, machine: Machine) -> usize
+fn put_machine(out: &mut [u8], at: usize, machine: Machine) -> usize
     ensures { λ r. ⌜ Wrote (now (out .entry)) at (machineFields machine) (now (out .exit)) r ⌝ }
 {
     let registers = machine.registers;
@@ -52,7 +52,7 @@ fn put_fields(out: &mut [u8], at: usize, reason: u8, progress: Progress) -> usiz
     put_byte(out, after_machine, b'\n')
 }
 
-pub fn put_line(out: &mut [u8], at: usize, answer: RunAnswer) -> usize
+pub(crate) fn put_line(out: &mut [u8], at: usize, answer: RunAnswer) -> usize
     ensures { λ r. ⌜ Wrote (now (out .entry)) at (line (runResult answer)) (now (out .exit)) r ⌝ }
     ensures { λ r. ⌜ r ≤ at + 66 ⌝ }
 {

@@ -1,6 +1,6 @@
 -- Laws of written text and of numerals, for the proofs of the writers and of those who call them.
-use mathlib.Core.Path.{_≡_, refl, sym, ap, _∙_}
-use mathlib.Core.Bool.{Bool, true, false, cond}
+use mathlib.Core.Path.{_≡_, refl, sym, _∙_}
+use mathlib.Core.Bool.{Bool, true, false}
 use mathlib.Core.List.{List, [], _∷_, _++_}
 use Prim.Native.Nat.{ℕ, zero, suc, _+_, _*_, _/_, _%_, _≤_, _<_, _^_, min}
 use native.Mathlib.Nat.{add-zero, add-suc, suc-add, add-assoc, pow-suc}
