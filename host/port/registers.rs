@@ -5,7 +5,7 @@ use super::functions::{
     mos6502_x, mos6502_y,
 };
 
-/// The six flags. The part has nothing in bits 4 and 5, where the crate keeps what PLP and RTI pull.
+/// The six flags. The chip has nothing in bits 4 and 5, where the crate keeps what PLP and RTI pull.
 #[derive(Clone, Copy, Debug, Default, PartialEq, Eq)]
 pub struct Status {
     pub negative: bool,
@@ -19,7 +19,7 @@ pub struct Status {
 impl Status {
     /// The flags of a byte as PLP pulls it.
     #[must_use]
-    pub const fn from_bits(byte: u8) -> Status {
+    pub const fn from_bits_truncate(byte: u8) -> Status {
         Status {
             negative: byte & 0x80 != 0,
             overflow: byte & 0x40 != 0,
@@ -76,7 +76,7 @@ impl Registers {
             index_y: mos6502_y(number),
             stack_pointer: StackPointer(mos6502_stack(number)),
             program_counter: mos6502_counter(number),
-            status: Status::from_bits(mos6502_status(number)),
+            status: Status::from_bits_truncate(mos6502_status(number)),
         }
     }
 }

@@ -24,7 +24,7 @@ fn memory_with(code: &[u8]) -> Vec<u8> {
 #[test]
 fn a_status_is_the_byte_that_is_pushed() {
     for byte in 0..=0xFF {
-        assert_eq!(Status::from_bits(byte).bits(), byte | 0x30);
+        assert_eq!(Status::from_bits_truncate(byte).bits(), byte | 0x30);
     }
 }
 
@@ -38,7 +38,7 @@ fn every_register_comes_back() {
             index_y: byte.wrapping_add(2),
             stack_pointer: StackPointer(byte.wrapping_add(3)),
             program_counter: u16::from(byte) << 8 | 0x7F,
-            status: Status::from_bits(byte),
+            status: Status::from_bits_truncate(byte),
         };
         // The memory is empty, so that the call hands back what it was given.
         assert_eq!(
