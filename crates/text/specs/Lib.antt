@@ -1,3 +1,4 @@
 pub mod Written
 pub mod Numerals
 pub mod Laws
+pub mod Theorems
