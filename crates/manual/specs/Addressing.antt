@@ -1,4 +1,4 @@
--- The addressing modes (manual, chapters 4 to 6). Operand bytes follow the opcode, from FFFF on to 0000.
+-- The addressing modes (manual, chapters 5 and 6; relative, chapter 4). Operand bytes follow the opcode, from FFFF on to 0000.
 use Prim.Native.Nat.{ℕ, _+_}
 use mathlib.Core.Bool.{false, not}
 use lib.Dec.{eqb}

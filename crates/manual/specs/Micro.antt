@@ -45,6 +45,6 @@ byte p = read p done
 abbrev pub store : ℕ → ℕ → Micro (Unit {0})
 store p b = write p b (done tt)
 
--- The form of every promise that touches memory: on the memory m the program p gives a and leaves m′.
+-- The form of the promises of instructions, steps and runs: on the memory m the program p gives a and leaves m′.
 abbrev pub Gives : {A : Type 0} → Micro A → List ℕ → A → List ℕ → Type 0
 Gives p m a m′ = exec p m ≡ (a, m′)

@@ -1,4 +1,5 @@
--- Document 01's 'Bytes a step reads', as it is stated there, apart from the definition: the opcode; operand bytes by mode; two pointer bytes
+-- Document 01's 'Bytes a step reads', as it is stated there, apart from what the definition reads (it gives only the address that a mode leads to,
+-- and the state between two steps): the opcode; operand bytes by mode; two pointer bytes
 -- for (zp,X), (zp),Y and JMP indirect; the target of a read and of a memory modification; pulled bytes; FFFE and FFFF for BRK. A store's
 -- target is not read. That the definition reads exactly these is a theorem (Theorems/Reads).
 use Prim.Native.Nat.{ℕ, zero, suc, _+_}

@@ -1,4 +1,4 @@
--- Bytes, pages and addresses (manual, chapters 1 and 5), and the byte as a signed number (chapter 2).
+-- Bytes, pages and addresses (manual, chapter 5), and the byte as a signed number (chapter 2).
 use Prim.Native.Nat.{ℕ, _+_, _-_, _*_, _/_, _%_}
 use mathlib.Core.Bool.{Bool, cond, _||_}
 use lib.Dec.{ltb}

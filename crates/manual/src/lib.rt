@@ -7,7 +7,8 @@ pub struct Machine {
     pub cycles: u64,
 }
 
-// Where an addressing mode leads, and whether an index carried it into another page.
+// Where an addressing mode leads, and whether that is another page than the one it was counted from: the page of an
+// indexed base, or of the counter past a branch.
 pub struct Target {
     pub address: u16,
     pub crossed: bool,

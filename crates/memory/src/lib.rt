@@ -7,7 +7,6 @@ ghost use Rattle.manual.specs.Micro.{Gives};
 ghost use Rattle.manual.specs.Words.{low, address, page, joined};
 ghost use Rattle.manual.specs.Stack.{push, pull, pushAddress, pullAddress};
 use registers::Registers;
-use registers::StackPointer;
 
 // An address in the zero page is one byte, and reaches memory only through its page.
 pub struct ZeroPage(pub u8);

@@ -1,4 +1,4 @@
-// The public parts, and the core on numbers for a host in C or Rust: see host/mos6502.h.
+// The core on numbers, for a host in C or Rust: see host/mos6502.h.
 ghost use mathlib.Core.Path.{_≡_};
 ghost use lib.ListN.{length};
 ghost use Rattle.manual.specs.Micro.{Gives};
@@ -108,7 +108,7 @@ pub extern "C" fn mos6502_counter(registers: u64) -> u16
     unpack(registers).counter
 }
 
-// What a call gives back on numbers.
+// What a run gives back on numbers. Where it made no step, both stay as they were, to the bit.
 fn give_back(
     answer: u8,
     progress: Progress,

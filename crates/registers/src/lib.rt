@@ -142,7 +142,8 @@ impl StackPointer {
     }
 }
 
-// The registers with one of them replaced. Each is one whole literal: that is what compiles to registers.
+// The registers with one of them replaced. Each is one whole literal, which the compiler keeps in the host's registers
+// instead of copying a record.
 impl Registers {
     pub fn with_accumulator(self, byte: u8) -> Registers
         ensures { λ r. ⌜ r ≡ setA byte self ⌝ }

@@ -13,13 +13,13 @@ pub struct Byte {
 }
 
 // The same for 16 bits.
-pub struct Word {
+pub(crate) struct Word {
     pub value: u16,
     pub next: usize,
 }
 
 // The same for 64 bits.
-pub struct Count {
+pub(crate) struct Count {
     pub value: u64,
     pub next: usize,
 }
@@ -81,7 +81,7 @@ pub fn read_byte(text: &[u8], at: usize) -> Byte
 }
 
 // Four hexadecimal digits.
-pub fn read_word(text: &[u8], at: usize) -> Word
+pub(crate) fn read_word(text: &[u8], at: usize) -> Word
     ensures { λ r. ⌜ r ≡ wordAt (now (text .entry)) at ⌝ }
 {
     let high = read_byte(text, at);
@@ -93,7 +93,7 @@ pub fn read_word(text: &[u8], at: usize) -> Word
 }
 
 // Decimal digits: one at least, and no more than 20. A number that 64 bits do not hold is refused.
-pub fn read_count(text: &[u8], at: usize) -> Count
+pub(crate) fn read_count(text: &[u8], at: usize) -> Count
     ensures { λ r. ⌜ r ≡ countAt (now (text .entry)) at ⌝ }
 {
     let first = read_digit(text, at, 10);
