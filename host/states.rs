@@ -11,7 +11,7 @@ pub fn machine_of(state: &State) -> Machine {
             index_y: state.y,
             stack_pointer: StackPointer(state.stack),
             program_counter: state.counter,
-            status: Status::from_bits(state.status),
+            status: Status::from_bits_truncate(state.status),
         },
         cycles: state.cycles,
     }
