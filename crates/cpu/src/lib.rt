@@ -92,19 +92,9 @@ fn walk(start: Machine, bound: u64, memory: &mut [u8]) -> Walked
                 machine = next;
                 steps += 1;
             }
-            StepAnswer::MemoryNotFull(_) => {
-                return Walked {
-                    steps: steps,
-                    answer: answer,
-                };
-            }
-            StepAnswer::NoCycleRoom(_) => {
-                return Walked {
-                    steps: steps,
-                    answer: answer,
-                };
-            }
-            StepAnswer::NotAnOpcode(_) => {
+            StepAnswer::MemoryNotFull(_)
+            | StepAnswer::NoCycleRoom(_)
+            | StepAnswer::NotAnOpcode(_) => {
                 return Walked {
                     steps: steps,
                     answer: answer,

@@ -1,6 +1,5 @@
 // What each class of instruction does, after execute_instruction of cpu.rs.
 ghost use mathlib.Core.Path.{_≡_};
-ghost use mathlib.Core.Bool.{true, false};
 ghost use lib.ListN.{length};
 ghost use Rattle.manual.specs.Micro.{Gives};
 ghost use Rattle.manual.specs.Branching.{holds, branched};

@@ -1,5 +1,5 @@
 -- The condition decides whether the target is taken.
-use mathlib.Core.Path.{sym, _∙_}
+use mathlib.Core.Path.{_∙_}
 use Rattle.manual.specs.Theorems.InstructionLaws.{branch-gives}
 use borrow.Author.Needs.{needs}
 use Rattle.operations.proofs.branch.Statement.{statement}

@@ -1,5 +1,5 @@
 -- The address and the status go on the stack before the vector is read.
-use mathlib.Core.Path.{sym, _∙_}
+use mathlib.Core.Path.{_∙_}
 use native.Mathlib.Omega.{arith}
 use Rattle.registers.specs.State.{flags}
 use Rattle.manual.specs.Theorems.InstructionLaws.{break-gives}

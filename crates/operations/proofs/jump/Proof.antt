@@ -1,5 +1,5 @@
 -- The counter goes where the mode leads.
-use mathlib.Core.Path.{sym, _∙_}
+use mathlib.Core.Path.{_∙_}
 use Rattle.manual.specs.Theorems.InstructionLaws.{jump-gives}
 use borrow.Author.Needs.{needs}
 use Rattle.operations.proofs.jump.Statement.{statement}

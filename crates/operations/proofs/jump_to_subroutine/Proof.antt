@@ -1,5 +1,5 @@
 -- The operand is read, the return address pushed, and the counter set.
-use mathlib.Core.Path.{sym, _∙_}
+use mathlib.Core.Path.{_∙_}
 use Rattle.manual.specs.Theorems.InstructionLaws.{call-gives}
 use borrow.Author.Needs.{needs}
 use Rattle.operations.proofs.jump_to_subroutine.Statement.{statement}

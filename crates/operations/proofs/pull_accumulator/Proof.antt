@@ -1,5 +1,5 @@
 -- The pulled byte is loaded.
-use mathlib.Core.Path.{sym, _∙_}
+use mathlib.Core.Path.{_∙_}
 use Rattle.manual.specs.Theorems.InstructionLaws.{pull-accumulator-gives}
 use borrow.Author.Needs.{needs}
 use Rattle.operations.proofs.pull_accumulator.Statement.{statement}

@@ -1,5 +1,5 @@
 -- The pulled byte becomes the status.
-use mathlib.Core.Path.{sym, _∙_}
+use mathlib.Core.Path.{_∙_}
 use Rattle.manual.specs.Theorems.InstructionLaws.{pull-status-gives}
 use borrow.Author.Needs.{needs}
 use Rattle.operations.proofs.pull_status.Statement.{statement}

@@ -1,5 +1,5 @@
 -- The accumulator is pushed.
-use mathlib.Core.Path.{sym, _∙_}
+use mathlib.Core.Path.{_∙_}
 use Rattle.manual.specs.Theorems.InstructionLaws.{push-accumulator-gives}
 use borrow.Author.Needs.{needs}
 use Rattle.operations.proofs.push_accumulator.Statement.{statement}

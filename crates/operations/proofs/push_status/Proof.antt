@@ -1,5 +1,5 @@
 -- The status is pushed as a byte.
-use mathlib.Core.Path.{sym, _∙_}
+use mathlib.Core.Path.{_∙_}
 use Rattle.manual.specs.Theorems.InstructionLaws.{push-status-gives}
 use borrow.Author.Needs.{needs}
 use Rattle.operations.proofs.push_status.Statement.{statement}

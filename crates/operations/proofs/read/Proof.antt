@@ -1,5 +1,5 @@
 -- The target's byte is taken, and a page cross is charged.
-use mathlib.Core.Path.{sym, _∙_}
+use mathlib.Core.Path.{_∙_}
 use Rattle.manual.specs.Theorems.InstructionLaws.{read-gives}
 use borrow.Author.Needs.{needs}
 use Rattle.operations.proofs.read.Statement.{statement}

@@ -1,5 +1,5 @@
 -- The status comes off first, then the counter.
-use mathlib.Core.Path.{sym, _∙_}
+use mathlib.Core.Path.{_∙_}
 use Rattle.manual.specs.Theorems.InstructionLaws.{return-from-interrupt-gives}
 use borrow.Author.Needs.{needs}
 use Rattle.operations.proofs.return_from_interrupt.Statement.{statement}

@@ -1,5 +1,5 @@
 -- The counter goes one past what was pulled.
-use mathlib.Core.Path.{sym, _∙_}
+use mathlib.Core.Path.{_∙_}
 use Rattle.manual.specs.Theorems.InstructionLaws.{return-gives}
 use borrow.Author.Needs.{needs}
 use Rattle.operations.proofs.return_from_subroutine.Statement.{statement}

@@ -1,5 +1,5 @@
 -- The register is stored where the mode leads.
-use mathlib.Core.Path.{sym, _∙_}
+use mathlib.Core.Path.{_∙_}
 use Rattle.manual.specs.Theorems.InstructionLaws.{store-gives}
 use borrow.Author.Needs.{needs}
 use Rattle.operations.proofs.store.Statement.{statement}
