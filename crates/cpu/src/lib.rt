@@ -1,18 +1,16 @@
 // A step and a bounded run, after single_step and run of cpu.rs.
 ghost use mathlib.Core.Path.{_≡_};
 ghost use lib.ListN.{length};
-ghost use Rattle.instruction.specs.Arrays.{Listed};
+ghost use Rattle.opcodes.specs.Arrays.{Listed};
 ghost use Rattle.manual.specs.Micro.{Gives};
 ghost use Rattle.manual.specs.Stepping.{stepFull, step, runFull, run};
 ghost use Rattle.cpu.specs.Answers.{stepResult, walkResult, runResult};
-use instruction::CYCLES;
 use instruction::Decoded;
-use instruction::MODES;
-use instruction::OPERATIONS;
-use instruction::decode_in;
 use manual::Machine;
 use memory::Address;
 use memory::get_byte;
+use opcodes::decode;
+use opcodes::table;
 use operations::execute_instruction;
 
 // What a step answers. Every case carries the machine: the new one, or in a refusal the one that was given.
@@ -54,7 +52,7 @@ fn step_in(
     }
     let registers = machine.registers;
     let opcode = get_byte(memory, Address(registers.counter));
-    match decode_in(operations, modes, cycles, opcode) {
+    match decode(operations, modes, cycles, opcode) {
         Decoded::Defined(entry) => {
             let instruction = entry.instruction;
             let mode = entry.mode;
@@ -80,9 +78,10 @@ fn walk(start: Machine, bound: u64, memory: &mut [u8]) -> Walked
     requires { ⌜ length (now memory) ≡ 65536 ⌝ }
     ensures { λ r. ⌜ Gives (runFull bound 0 start) (now (memory .entry)) (walkResult r) (now (memory .exit)) ⌝ }
 {
-    let operations = OPERATIONS;
-    let modes = MODES;
-    let cycles = CYCLES;
+    let opcodes = table();
+    let operations = opcodes.operations;
+    let modes = opcodes.modes;
+    let cycles = opcodes.cycles;
     let mut machine = start;
     let mut steps: u64 = 0;
     while steps < bound {

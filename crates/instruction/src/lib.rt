@@ -3,15 +3,6 @@ ghost use Prim.Native.Nat.{_≤_};
 ghost use mathlib.Core.Path.{_≡_};
 ghost use Rattle.instruction.specs.Modes.{operandBytes};
 
-mod number; // number.rt: the operations and the addressing modes by number
-mod table; // table.rt: the opcode table
-
-pub use table::CYCLES;
-pub use table::MODES;
-pub use table::OPERATIONS;
-pub use table::decode;
-pub use table::decode_in;
-
 // Reads a byte: an operand of the arithmetic unit, or what a register is loaded or compared with.
 pub enum ReadOperation {
     ADC,

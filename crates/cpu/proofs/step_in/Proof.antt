@@ -20,7 +20,7 @@ add-t22 c =
     let c₁₁ = c₁₀ .before in
     let c₁₄ = c₁₁ .before .before .before in
     let c₁₇ = c₁₄ .before .before .before in
-    omega (arith, ruled (c₁₁ .get-byte .result) (c₈ .entry .given .0 .0) (sym (c₁₇ .pre .1 (c₁₁ .get-byte .result) (search needs)) ∙ sym (c₁₀ .decode-in .ensures) ∙ c₈ .entry .given .1), extra-of _ _ _ _ (c₅ .execute-instruction .ensures), c₁₄ .if1 .left)
+    omega (arith, ruled (c₁₁ .get-byte .result) (c₈ .entry .given .0 .0) (sym (c₁₇ .pre .1 (c₁₁ .get-byte .result) (search needs)) ∙ sym (c₁₀ .decode .ensures) ∙ c₈ .entry .given .1), extra-of _ _ _ _ (c₅ .execute-instruction .ensures), c₁₄ .if1 .left)
 
 add-t24 : tie.Need-add-t24
 add-t24 c =
@@ -30,7 +30,7 @@ add-t24 c =
     let c₁₂ = c₁₁ .before in
     let c₁₅ = c₁₂ .before .before .before in
     let c₁₈ = c₁₅ .before .before .before in
-    omega (arith, ruled (c₁₂ .get-byte .result) (c₉ .entry .given .0 .0) (sym (c₁₈ .pre .1 (c₁₂ .get-byte .result) (search needs)) ∙ sym (c₁₁ .decode-in .ensures) ∙ c₉ .entry .given .1), extra-of _ _ _ _ (c₆ .execute-instruction .ensures), c₁₅ .if1 .left)
+    omega (arith, ruled (c₁₂ .get-byte .result) (c₉ .entry .given .0 .0) (sym (c₁₈ .pre .1 (c₁₂ .get-byte .result) (search needs)) ∙ sym (c₁₁ .decode .ensures) ∙ c₉ .entry .given .1), extra-of _ _ _ _ (c₆ .execute-instruction .ensures), c₁₅ .if1 .left)
 
 returns-2 : tie.Need-returns-2
 returns-2 c =
@@ -40,7 +40,7 @@ returns-2 c =
     let c₁₂ = c₁₁ .before in
     let c₁₅ = c₁₂ .before .before .before in
     let c₁₈ = c₁₅ .before .before .before in
-    step-defined _ _ (c₉ .entry .given .0 .0) (c₁₅ .if1 .left) (ap decoded (sym (c₁₂ .get-byte .ensures)) ∙ sym (c₁₈ .pre .1 (c₁₂ .get-byte .result) (search needs)) ∙ sym (c₁₁ .decode-in .ensures) ∙ c₉ .entry .given .1) (c₆ .execute-instruction .ensures)
+    step-defined _ _ (c₉ .entry .given .0 .0) (c₁₅ .if1 .left) (ap decoded (sym (c₁₂ .get-byte .ensures)) ∙ sym (c₁₈ .pre .1 (c₁₂ .get-byte .result) (search needs)) ∙ sym (c₁₁ .decode .ensures) ∙ c₉ .entry .given .1) (c₆ .execute-instruction .ensures)
 
 returns-3 : tie.Need-returns-3
 returns-3 c =
@@ -48,7 +48,7 @@ returns-3 c =
     let c₃ = c₂ .before in
     let c₆ = c₃ .before .before .before in
     let c₉ = c₆ .before .before .before in
-    step-undefined _ _ (c₆ .if1 .left) (ap decoded (sym (c₃ .get-byte .ensures)) ∙ sym (c₉ .pre .1 (c₃ .get-byte .result) (search needs)) ∙ sym (c₂ .decode-in .ensures) ∙ c .enum-told .given .1)
+    step-undefined _ _ (c₆ .if1 .left) (ap decoded (sym (c₃ .get-byte .ensures)) ∙ sym (c₉ .pre .1 (c₃ .get-byte .result) (search needs)) ∙ sym (c₂ .decode .ensures) ∙ c .enum-told .given .1)
 
 pub step-in-spec : {M : Type 1} → statement M
 step-in-spec = tie.close (tie.spec returns (search needs) (search needs) (search needs) (search needs) (search needs) add-t22 (search needs) add-t24 (search needs) (search needs) returns-2 (search needs) returns-3)

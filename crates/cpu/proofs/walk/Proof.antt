@@ -7,9 +7,7 @@ use denote.Ref.{now}
 use denote.Enum.Declared.{tagOf}
 use lib.ListN.{length}
 use types.Run.{OneOf, miss}
-use Rattle.instruction.specs.Arrays.{Listed, entry-at}
-use Rattle.instruction.specs.Opcodes.{decoded, rows}
-use Rattle.instruction.specs.Operations.{operationAt, operations, modeAt, modes}
+use Rattle.opcodes.specs.Arrays.{Listed}
 use Rattle.manual.specs.declared.Machine.{Machine}
 use Rattle.manual.specs.Micro.{exec, Gives}
 use Rattle.manual.specs.Stepping.{stepFull, runFull}
@@ -42,8 +40,10 @@ abbrev μ-loop : tie.MeasureT-loop
 μ-loop bound memory₀ operations modes cycles machine₀ steps₀ memory machine steps = bound - steps
 
 loop-holds : tie.Need-loop-holds Inv-loop μ-loop
-unfolding decoded rows operationAt operations modeAt modes
-loop-holds c = (omega arith, c .before .pre, ap (λ (n : ℕ). exec (runFull n 0 (c .before .args .start)) (now (c .before .args .memory))) (omega arith), entry-at _ _ _ refl)
+loop-holds c =
+    let c₃ = c .before .before .before in
+    let c₄ = c₃ .before .before in
+    (omega arith, c₄ .pre, ap (λ (n : ℕ). exec (runFull n 0 (c₄ .args .start)) (now (c₄ .args .memory))) (omega arith), c₃ .table .ensures)
 
 step-in-requires : tie.Need-step-in-requires Inv-loop μ-loop
 step-in-requires c κs = (c .before .before .before .before .before .loop .inv .1, c .before .before .before .before .before .loop .inv .3)
@@ -58,7 +58,7 @@ same-length : tie.Need-same-length Inv-loop μ-loop
 same-length c =
     let c₃ = c .before .before .before in
     let c₉ = c₃ .before .before .before .before .before .before in
-    omega (arith, c₃ .step-in .kept, c₉ .loop .inv .1, c₉ .before .before .pre)
+    omega (arith, c₃ .step-in .kept, c₉ .loop .inv .1, c₉ .before .before .before .before .before .before .pre)
 
 returns : tie.Need-returns Inv-loop μ-loop
 returns c =
@@ -67,10 +67,10 @@ returns c =
     c₉ .loop .inv .2 ∙ refused _ _ _ _ (c₃ .step-in .result) (omega arith) (c .match .keys2) (c₃ .step-in .ensures)
 
 same-length-2 : tie.Need-same-length-2 Inv-loop μ-loop
-same-length-2 c = c .before .loop .inv .1 ∙ sym (c .before .before .before .pre)
+same-length-2 c = c .before .loop .inv .1 ∙ sym (c .before .before .before .before .before .before .before .pre)
 
 returns-2 : tie.Need-returns-2 Inv-loop μ-loop
 returns-2 c = c .before .loop .inv .2 ∙ ap (λ (n : ℕ). exec (runFull n (c .before .loop .steps) (c .before .loop .machine)) (c .before .loop .memory)) (omega arith) ∙ run-end _ _ _
 
 pub walk-spec : {M : Type 1} → statement M
-walk-spec = tie.close (tie.spec Inv-loop μ-loop loop-holds step-in-requires (search needs) (search needs) (search needs) loop-again same-length returns same-length-2 returns-2)
+walk-spec = tie.close (tie.spec Inv-loop μ-loop (search needs) loop-holds step-in-requires (search needs) (search needs) (search needs) loop-again same-length returns same-length-2 returns-2)

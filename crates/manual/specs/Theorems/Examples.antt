@@ -53,7 +53,7 @@ expected e = (stepped (e .answer) (e .left), e .byte)
 
 -- where no byte is looked at, one that stays 0
 abbrev pub example : Machine → List Laid → ℕ → Machine → Example
-example before bytes answer left = record { before = before; bytes = bytes; answer = answer; left = left; place = 0xFFF0; byte = 0 }
+example before bytes answer left = record { before = before; bytes = bytes; answer = answer; left = left; place = 0x00F0; byte = 0 }
 
 -- a step that is made, and the byte that it leaves at a place
 abbrev pub leaving : Machine → List Laid → Machine → ℕ → ℕ → Example

@@ -1,14 +1,16 @@
-// The opcode table: three arrays of numbers, a row for each high digit of the opcode.
+// The opcode table, after decode of instruction.rs: three arrays of numbers, a row for each high digit of the opcode.
 ghost use mathlib.Core.Path.{_≡_};
-ghost use Rattle.instruction.specs.Arrays.{entryIn};
-ghost use Rattle.instruction.specs.Opcodes.{decoded};
-use crate::Decoded;
-use crate::Entry;
-use crate::number::mode_at;
-use crate::number::operation_at;
+ghost use Rattle.opcodes.specs.Arrays.{Listed, entryIn};
+use instruction::Decoded;
+use instruction::Entry;
+
+mod number; // number.rt: the operations and the addressing modes by number
+
+use number::mode_at;
+use number::operation_at;
 
 // The operation of each opcode, by number; 255 where the opcode is not defined.
-pub const OPERATIONS: [u8; 256] = *b"\
+const OPERATIONS: [u8; 256] = *b"\
     \x0A\x22\xFF\xFF\xFF\x22\x02\xFF\x24\x22\x02\xFF\xFF\x22\x02\xFF\
     \x09\x22\xFF\xFF\xFF\x22\x02\xFF\x0D\x22\xFF\xFF\xFF\x22\x02\xFF\
     \x1C\x01\xFF\xFF\x06\x01\x27\xFF\x26\x01\x27\xFF\x06\x01\x27\xFF\
@@ -27,7 +29,7 @@ pub const OPERATIONS: [u8; 256] = *b"\
     \x05\x2B\xFF\xFF\xFF\x2B\x18\xFF\x2D\x2B\xFF\xFF\xFF\x2B\x18\xFF";
 
 // The addressing mode of each opcode, by number.
-pub const MODES: [u8; 256] = *b"\
+const MODES: [u8; 256] = *b"\
     \x01\x0B\x00\x00\x00\x03\x03\x00\x01\x02\x00\x00\x00\x07\x07\x00\
     \x06\x0C\x00\x00\x00\x04\x04\x00\x01\x09\x00\x00\x00\x08\x08\x00\
     \x07\x0B\x00\x00\x03\x03\x03\x00\x01\x02\x00\x00\x07\x07\x07\x00\
@@ -46,7 +48,7 @@ pub const MODES: [u8; 256] = *b"\
     \x06\x0C\x00\x00\x00\x04\x04\x00\x01\x09\x00\x00\x00\x08\x08\x00";
 
 // The base cycles of each opcode.
-pub const CYCLES: [u8; 256] = *b"\
+const CYCLES: [u8; 256] = *b"\
     \x07\x06\x00\x00\x00\x03\x05\x00\x03\x02\x02\x00\x00\x04\x06\x00\
     \x02\x05\x00\x00\x00\x04\x06\x00\x02\x04\x00\x00\x00\x04\x07\x00\
     \x06\x06\x00\x00\x03\x03\x05\x00\x04\x02\x02\x00\x04\x04\x06\x00\
@@ -64,13 +66,25 @@ pub const CYCLES: [u8; 256] = *b"\
     \x02\x06\x00\x00\x03\x03\x05\x00\x02\x02\x02\x00\x04\x04\x06\x00\
     \x02\x05\x00\x00\x00\x04\x06\x00\x02\x04\x00\x00\x00\x04\x07\x00";
 
-// What three arrays of numbers say of an opcode. A caller that lays the arrays out once asks here; `decode` lays them out for one opcode.
-pub fn decode_in(
-    operations: &[u8; 256],
-    modes: &[u8; 256],
-    cycles: &[u8; 256],
-    opcode: u8,
-) -> Decoded
+pub struct OpcodeTable {
+    pub operations: [u8; 256],
+    pub modes: [u8; 256],
+    pub cycles: [u8; 256],
+}
+
+// The table. The compiler lays it out anew at each call, so a caller with many opcodes keeps its arrays and lends them to decode.
+pub fn table() -> OpcodeTable
+    ensures { λ r. ⌜ Listed (r .operations) (r .modes) (r .cycles) ⌝ }
+{
+    OpcodeTable {
+        operations: OPERATIONS,
+        modes: MODES,
+        cycles: CYCLES,
+    }
+}
+
+// What three arrays of numbers say of an opcode. With the arrays of the table that is what the opcode means.
+pub fn decode(operations: &[u8; 256], modes: &[u8; 256], cycles: &[u8; 256], opcode: u8) -> Decoded
     ensures { λ r. ⌜ r ≡ entryIn (now (operations .entry)) (now (modes .entry)) (now (cycles .entry)) opcode ⌝ }
 {
     let at = opcode as usize;
@@ -84,11 +98,4 @@ pub fn decode_in(
             cycles: cycles[at],
         })
     }
-}
-
-// What an opcode means.
-pub fn decode(opcode: u8) -> Decoded
-    ensures { λ r. ⌜ r ≡ decoded opcode ⌝ }
-{
-    decode_in(&OPERATIONS, &MODES, &CYCLES, opcode)
 }

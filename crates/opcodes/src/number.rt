@@ -1,13 +1,13 @@
 // The operations and the addressing modes by number.
 ghost use mathlib.Core.Path.{_≡_};
-ghost use Rattle.instruction.specs.Operations.{modeAt, numberOf, operationAt};
-use crate::AddressingMode;
-use crate::BranchOperation;
-use crate::Instruction;
-use crate::InternalOperation;
-use crate::ModifyOperation;
-use crate::ReadOperation;
-use crate::StoreOperation;
+ghost use Rattle.opcodes.specs.Operations.{modeAt, operationAt};
+use instruction::AddressingMode;
+use instruction::BranchOperation;
+use instruction::Instruction;
+use instruction::InternalOperation;
+use instruction::ModifyOperation;
+use instruction::ReadOperation;
+use instruction::StoreOperation;
 
 // The operation of a number; NOP for a number that stands for none.
 pub(crate) fn operation_at(number: u8) -> Instruction
@@ -93,111 +93,5 @@ pub(crate) fn mode_at(number: u8) -> AddressingMode
         11 => AddressingMode::IndexedIndirectX,
         12 => AddressingMode::IndirectIndexedY,
         _ => AddressingMode::Implied,
-    }
-}
-
-fn read_number(operation: ReadOperation) -> u8
-    ensures { λ r. ⌜ r ≡ numberOf (Instruction.Read operation) ⌝ }
-{
-    match operation {
-        ReadOperation::ADC => 0,
-        ReadOperation::AND => 1,
-        ReadOperation::BIT => 6,
-        ReadOperation::CMP => 17,
-        ReadOperation::CPX => 18,
-        ReadOperation::CPY => 19,
-        ReadOperation::EOR => 23,
-        ReadOperation::LDA => 29,
-        ReadOperation::LDX => 30,
-        ReadOperation::LDY => 31,
-        ReadOperation::ORA => 34,
-        ReadOperation::SBC => 43,
-    }
-}
-
-fn store_number(operation: StoreOperation) -> u8
-    ensures { λ r. ⌜ r ≡ numberOf (Instruction.Store operation) ⌝ }
-{
-    match operation {
-        StoreOperation::STA => 47,
-        StoreOperation::STX => 48,
-        StoreOperation::STY => 49,
-    }
-}
-
-fn modify_number(operation: ModifyOperation) -> u8
-    ensures { λ r. ⌜ r ≡ numberOf (Instruction.Modify operation) ⌝ }
-{
-    match operation {
-        ModifyOperation::ASL => 2,
-        ModifyOperation::DEC => 20,
-        ModifyOperation::INC => 24,
-        ModifyOperation::LSR => 32,
-        ModifyOperation::ROL => 39,
-        ModifyOperation::ROR => 40,
-    }
-}
-
-fn branch_number(operation: BranchOperation) -> u8
-    ensures { λ r. ⌜ r ≡ numberOf (Instruction.Branch operation) ⌝ }
-{
-    match operation {
-        BranchOperation::BCC => 3,
-        BranchOperation::BCS => 4,
-        BranchOperation::BEQ => 5,
-        BranchOperation::BMI => 7,
-        BranchOperation::BNE => 8,
-        BranchOperation::BPL => 9,
-        BranchOperation::BVC => 11,
-        BranchOperation::BVS => 12,
-    }
-}
-
-fn internal_number(operation: InternalOperation) -> u8
-    ensures { λ r. ⌜ r ≡ numberOf (Instruction.Internal operation) ⌝ }
-{
-    match operation {
-        InternalOperation::CLC => 13,
-        InternalOperation::CLD => 14,
-        InternalOperation::CLI => 15,
-        InternalOperation::CLV => 16,
-        InternalOperation::DEX => 21,
-        InternalOperation::DEY => 22,
-        InternalOperation::INX => 25,
-        InternalOperation::INY => 26,
-        InternalOperation::NOP => 33,
-        InternalOperation::SEC => 44,
-        InternalOperation::SED => 45,
-        InternalOperation::SEI => 46,
-        InternalOperation::TAX => 50,
-        InternalOperation::TAY => 51,
-        InternalOperation::TSX => 52,
-        InternalOperation::TXA => 53,
-        InternalOperation::TXS => 54,
-        InternalOperation::TYA => 55,
-    }
-}
-
-impl Instruction {
-    // The number of an operation: its place in the order of the names.
-    pub fn number(self) -> u8
-        ensures { λ r. ⌜ r ≡ numberOf self ⌝ }
-    {
-        match self {
-            Instruction::Read(operation) => read_number(operation),
-            Instruction::Store(operation) => store_number(operation),
-            Instruction::Modify(operation) => modify_number(operation),
-            Instruction::Branch(operation) => branch_number(operation),
-            Instruction::Internal(operation) => internal_number(operation),
-            Instruction::BRK => 10,
-            Instruction::JMP => 27,
-            Instruction::JSR => 28,
-            Instruction::PHA => 35,
-            Instruction::PHP => 36,
-            Instruction::PLA => 37,
-            Instruction::PLP => 38,
-            Instruction::RTI => 41,
-            Instruction::RTS => 42,
-        }
     }
 }
