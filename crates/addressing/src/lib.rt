@@ -4,6 +4,7 @@ ghost use lib.ListN.{length, getD};
 ghost use Rattle.manual.specs.Micro.{Gives};
 ghost use Rattle.manual.specs.Words.{joined};
 ghost use Rattle.manual.specs.Addressing.{operand, plain, landing, indexed, target};
+ghost use Rattle.manual.specs.Instructions.{past};
 use arithmetic::branch_target;
 use instruction::AddressingMode;
 use manual::Target;
@@ -20,6 +21,13 @@ pub fn operand_at(registers: Registers, count: u16) -> Address
     ensures { λ r. ⌜ r .0 ≡ operand registers count ⌝ }
 {
     Address(registers.counter).plus(count)
+}
+
+// The registers with the counter past the instruction.
+pub fn advanced(mode: AddressingMode, registers: Registers) -> Registers
+    ensures { λ r. ⌜ r ≡ past mode registers ⌝ }
+{
+    registers.with_counter(operand_at(registers, 1 + mode.extra_bytes()).0)
 }
 
 fn operand_byte(registers: Registers, memory: &[u8]) -> u8

@@ -2,8 +2,8 @@
 use mathlib.Core.Path.{_∙_}
 use Rattle.manual.specs.Theorems.InstructionLaws.{return-gives}
 use borrow.Author.Needs.{needs}
-use Rattle.operations.proofs.return_from_subroutine.Statement.{statement}
-use Rattle.operations.proofs.return_from_subroutine.Tie as tie
+use Rattle.stack.proofs.return_from_subroutine.Statement.{statement}
+use Rattle.stack.proofs.return_from_subroutine.Tie as tie
 
 returns : tie.Need-returns
 returns c = return-gives _ _ _ (c .before .before .before .pull-address .ensures) ∙ rw (c .with-counter .ensures, c .before .plus .ensures)

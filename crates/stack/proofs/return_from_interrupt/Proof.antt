@@ -2,8 +2,8 @@
 use mathlib.Core.Path.{_∙_}
 use Rattle.manual.specs.Theorems.InstructionLaws.{return-from-interrupt-gives}
 use borrow.Author.Needs.{needs}
-use Rattle.operations.proofs.return_from_interrupt.Statement.{statement}
-use Rattle.operations.proofs.return_from_interrupt.Tie as tie
+use Rattle.stack.proofs.return_from_interrupt.Statement.{statement}
+use Rattle.stack.proofs.return_from_interrupt.Tie as tie
 
 returns : tie.Need-returns
 returns c =

@@ -1,8 +1,8 @@
 -- The counter goes past the opcode and its operand bytes.
 use native.Mathlib.Omega.{arith}
 use borrow.Author.Needs.{needs}
-use Rattle.operations.proofs.advanced.Statement.{statement}
-use Rattle.operations.proofs.advanced.Tie as tie
+use Rattle.addressing.proofs.advanced.Statement.{statement}
+use Rattle.addressing.proofs.advanced.Tie as tie
 
 add-operand-at : tie.Need-add-operand-at
 add-operand-at c = omega (arith, c .extra-bytes .ensures .1)

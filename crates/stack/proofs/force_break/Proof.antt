@@ -4,8 +4,8 @@ use native.Mathlib.Omega.{arith}
 use Rattle.registers.specs.State.{flags}
 use Rattle.manual.specs.Theorems.InstructionLaws.{break-gives}
 use borrow.Author.Needs.{needs}
-use Rattle.operations.proofs.force_break.Statement.{statement}
-use Rattle.operations.proofs.force_break.Tie as tie
+use Rattle.stack.proofs.force_break.Statement.{statement}
+use Rattle.stack.proofs.force_break.Tie as tie
 
 same-length : tie.Need-same-length
 same-length c =

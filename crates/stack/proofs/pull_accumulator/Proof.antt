@@ -2,8 +2,8 @@
 use mathlib.Core.Path.{_∙_}
 use Rattle.manual.specs.Theorems.InstructionLaws.{pull-accumulator-gives}
 use borrow.Author.Needs.{needs}
-use Rattle.operations.proofs.pull_accumulator.Statement.{statement}
-use Rattle.operations.proofs.pull_accumulator.Tie as tie
+use Rattle.stack.proofs.pull_accumulator.Statement.{statement}
+use Rattle.stack.proofs.pull_accumulator.Tie as tie
 
 returns : tie.Need-returns
 returns c = pull-accumulator-gives _ _ _ (c .before .before .pull-from-stack .ensures) ∙ rw (c .load-accumulator .ensures, c .before .advanced .ensures)

@@ -2,8 +2,8 @@
 use mathlib.Core.Path.{_∙_}
 use Rattle.manual.specs.Theorems.InstructionLaws.{push-status-gives}
 use borrow.Author.Needs.{needs}
-use Rattle.operations.proofs.push_status.Statement.{statement}
-use Rattle.operations.proofs.push_status.Tie as tie
+use Rattle.stack.proofs.push_status.Statement.{statement}
+use Rattle.stack.proofs.push_status.Tie as tie
 
 returns : tie.Need-returns
 returns c =

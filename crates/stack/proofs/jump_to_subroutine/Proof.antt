@@ -2,8 +2,8 @@
 use mathlib.Core.Path.{_∙_}
 use Rattle.manual.specs.Theorems.InstructionLaws.{call-gives}
 use borrow.Author.Needs.{needs}
-use Rattle.operations.proofs.jump_to_subroutine.Statement.{statement}
-use Rattle.operations.proofs.jump_to_subroutine.Tie as tie
+use Rattle.stack.proofs.jump_to_subroutine.Statement.{statement}
+use Rattle.stack.proofs.jump_to_subroutine.Tie as tie
 
 returns : tie.Need-returns
 returns c =

@@ -2,8 +2,8 @@
 use mathlib.Core.Path.{_∙_}
 use Rattle.manual.specs.Theorems.InstructionLaws.{push-accumulator-gives}
 use borrow.Author.Needs.{needs}
-use Rattle.operations.proofs.push_accumulator.Statement.{statement}
-use Rattle.operations.proofs.push_accumulator.Tie as tie
+use Rattle.stack.proofs.push_accumulator.Statement.{statement}
+use Rattle.stack.proofs.push_accumulator.Tie as tie
 
 returns : tie.Need-returns
 returns c = push-accumulator-gives _ _ _ (c .before .before .before .push-on-stack .ensures) ∙ rw (c .advanced .ensures)
