@@ -4,7 +4,7 @@ ghost use lib.ListN.{length};
 ghost use Rattle.opcodes.specs.Arrays.{Listed};
 ghost use Rattle.manual.specs.Micro.{Gives};
 ghost use Rattle.manual.specs.Stepping.{stepFull, step, runFull, run};
-ghost use Rattle.cpu.specs.Answers.{stepResult, walkResult, runResult};
+ghost use Rattle.cpu.specs.Answers.{stepResult, walkResult, runResult, endingResult};
 use instruction::Decoded;
 use manual::Machine;
 use memory::Address;
@@ -34,6 +34,41 @@ pub enum RunAnswer {
     NoCycleRoom(Progress),
     NotAnOpcode(Progress),
     BoundTooHigh(Progress),
+}
+
+// An answer as its number, and what it carries.
+pub struct Ending {
+    pub number: u8,
+    pub progress: Progress,
+}
+
+impl RunAnswer {
+    pub fn ending(self) -> Ending
+        ensures { λ r. ⌜ endingResult r ≡ runResult self ⌝ }
+    {
+        match self {
+            RunAnswer::Made(progress) => Ending {
+                number: 0,
+                progress: progress,
+            },
+            RunAnswer::MemoryNotFull(progress) => Ending {
+                number: 1,
+                progress: progress,
+            },
+            RunAnswer::NoCycleRoom(progress) => Ending {
+                number: 2,
+                progress: progress,
+            },
+            RunAnswer::NotAnOpcode(progress) => Ending {
+                number: 3,
+                progress: progress,
+            },
+            RunAnswer::BoundTooHigh(progress) => Ending {
+                number: 4,
+                progress: progress,
+            },
+        }
+    }
 }
 
 // A step on a full memory, with the opcode table laid out by the caller. It has one caller, so that the compiler puts it into the loop.

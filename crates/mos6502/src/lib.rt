@@ -2,10 +2,10 @@
 ghost use mathlib.Core.Path.{_≡_};
 ghost use lib.ListN.{length};
 ghost use Rattle.manual.specs.Micro.{Gives};
-ghost use Rattle.mos6502.specs.Numbers.{packed, unpacked, registersOf, numbers, madeBy, stepOnNumbers, runOnNumbers};
+ghost use Rattle.cpu.specs.Answers.{endingResult};
+ghost use Rattle.mos6502.specs.Numbers.{packed, unpacked, registersOf, runNumbers, madeBy, stepOnNumbers, runOnNumbers};
 ghost use Rattle.registers.specs.StatusByte.{pushedByte};
-use cpu::Progress;
-use cpu::RunAnswer;
+use cpu::Ending;
 use cpu::StepAnswer;
 use cpu::run;
 use cpu::single_step;
@@ -109,27 +109,21 @@ pub extern "C" fn mos6502_counter(registers: u64) -> u16
 }
 
 // What a run gives back on numbers. Where it made no step, both stay as they were, to the bit.
-fn give_back(
-    answer: u8,
-    progress: Progress,
-    registers: &mut u64,
-    cycles: &mut u64,
-    steps: &mut u64,
-) -> u8
+fn give_back(ending: Ending, registers: &mut u64, cycles: &mut u64, steps: &mut u64) -> u8
     ensures { λ r.
-        ⌜ numbers (now (registers .entry)) (now (cycles .entry)) answer (progress .steps) (progress .machine)
+        ⌜ runNumbers (now (registers .entry)) (now (cycles .entry)) (endingResult ending)
         ≡ record { answer = r; steps = now (steps .exit); registers = now (registers .exit); cycles = now (cycles .exit) } ⌝ }
 {
-    let count = progress.steps;
+    let count = ending.progress.steps;
     *steps = count;
     if count == 0 {
-        return answer;
+        return ending.number;
     }
-    let machine = progress.machine;
+    let machine = ending.progress.machine;
     let after = machine.registers;
     *registers = pack(after);
     *cycles = machine.cycles;
-    answer
+    ending.number
 }
 
 // A step. A refusal leaves both numbers and the memory as they were.
@@ -179,11 +173,6 @@ pub extern "C" fn mos6502_run(
         registers: unpack(*registers),
         cycles: *cycles,
     };
-    match run(machine, bound, memory) {
-        RunAnswer::Made(progress) => give_back(0, progress, registers, cycles, steps),
-        RunAnswer::MemoryNotFull(progress) => give_back(1, progress, registers, cycles, steps),
-        RunAnswer::NoCycleRoom(progress) => give_back(2, progress, registers, cycles, steps),
-        RunAnswer::NotAnOpcode(progress) => give_back(3, progress, registers, cycles, steps),
-        RunAnswer::BoundTooHigh(progress) => give_back(4, progress, registers, cycles, steps),
-    }
+    let ending = run(machine, bound, memory).ending();
+    give_back(ending, registers, cycles, steps)
 }

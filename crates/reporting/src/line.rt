@@ -1,10 +1,9 @@
 // The line of a run's answer.
 ghost use Prim.Native.Nat.{_+_, _≤_};
-ghost use Rattle.manual.specs.Stepping.{finished};
-ghost use Rattle.cpu.specs.Answers.{runResult};
+ghost use Rattle.cpu.specs.Answers.{runResult, endingResult};
 ghost use Rattle.text.specs.Written.{Wrote};
 ghost use Rattle.reporting.specs.Report.{registerFields, machineFields, allFields, line};
-use cpu::Progress;
+use cpu::Ending;
 use cpu::RunAnswer;
 use manual::Machine;
 use registers::Registers;
@@ -34,19 +33,13 @@ fn put_machine(out: &mut [u8], at: usize, machine: Machine) -> usize
     put_registers(out, after_counter, registers)
 }
 
-fn put_fields(out: &mut [u8], at: usize, reason: u8, progress: Progress) -> usize
-    ensures { λ r.
-        ⌜ Wrote
-        (now (out .entry))
-        at
-        (allFields (finished reason (progress .steps) (progress .machine)))
-        (now (out .exit))
-        r ⌝ }
+fn put_fields(out: &mut [u8], at: usize, ending: Ending) -> usize
+    ensures { λ r. ⌜ Wrote (now (out .entry)) at (allFields (endingResult ending)) (now (out .exit)) r ⌝ }
     ensures { λ r. ⌜ r ≤ at + 66 ⌝ }
 {
-    let machine = progress.machine;
-    let after_reason = put_decimal(out, at, reason as u64);
-    let after_steps = put_spaced_decimal(out, after_reason, progress.steps);
+    let machine = ending.progress.machine;
+    let after_reason = put_decimal(out, at, ending.number as u64);
+    let after_steps = put_spaced_decimal(out, after_reason, ending.progress.steps);
     let after_space = put_byte(out, after_steps, b' ');
     let after_machine = put_machine(out, after_space, machine);
     put_byte(out, after_machine, b'\n')
@@ -56,11 +49,9 @@ pub(crate) fn put_line(out: &mut [u8], at: usize, answer: RunAnswer) -> usize
     ensures { λ r. ⌜ Wrote (now (out .entry)) at (line (runResult answer)) (now (out .exit)) r ⌝ }
     ensures { λ r. ⌜ r ≤ at + 66 ⌝ }
 {
-    match answer {
-        RunAnswer::Made(progress) => put_fields(out, at, 0, progress),
-        RunAnswer::MemoryNotFull(_) => put_text(out, at, b"1\n"),
-        RunAnswer::NoCycleRoom(progress) => put_fields(out, at, 2, progress),
-        RunAnswer::NotAnOpcode(progress) => put_fields(out, at, 3, progress),
-        RunAnswer::BoundTooHigh(progress) => put_fields(out, at, 4, progress),
+    let ending = answer.ending();
+    if ending.number == 1 {
+        return put_text(out, at, b"1\n");
     }
+    put_fields(out, at, ending)
 }

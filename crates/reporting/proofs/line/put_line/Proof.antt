@@ -1,5 +1,6 @@
--- By cases of the answer.
+-- By the answer's number.
 use native.Mathlib.Omega.{arith}
+use borrow.Author.Tests.{eq-eqb, ne-eqb}
 use Rattle.reporting.specs.Report.{line}
 use borrow.Author.Needs.{needs}
 use Rattle.reporting.proofs.line.put_line.Statement.{statement}
@@ -9,32 +10,16 @@ returns : tie.Need-returns
 unfolding line
 returns c =
     let c₂ = c .before .before in
-    rw (c₂ .before .before .before .answer .given .1) (c₂ .put-fields .ensures)
+    let c₅ = c₂ .before .before .before in
+    let wrote = c₂ .put-text .ensures in
+    rw (← c₅ .before .before .ending .ensures, eq-eqb _ _ (c₅ .if1 .taken)) (wrote, omega (arith, wrote .ends))
 
 returns-2 : tie.Need-returns-2
 unfolding line
 returns-2 c =
     let c₂ = c .before .before in
-    let wrote = c₂ .put-text .ensures in
-    rw (c₂ .before .before .before .enum-told .given .1) (wrote, omega (arith, wrote .ends))
-
-returns-3 : tie.Need-returns-3
-unfolding line
-returns-3 c =
-    let c₂ = c .before .before in
-    rw (c₂ .before .before .before .answer2 .given .1) (c₂ .put-fields2 .ensures)
-
-returns-4 : tie.Need-returns-4
-unfolding line
-returns-4 c =
-    let c₂ = c .before .before in
-    rw (c₂ .before .before .before .answer3 .given .1) (c₂ .put-fields3 .ensures)
-
-returns-5 : tie.Need-returns-5
-unfolding line
-returns-5 c =
-    let c₂ = c .before .before in
-    rw (c₂ .before .before .before .answer4 .given .1) (c₂ .put-fields4 .ensures)
+    let c₄ = c₂ .before .before in
+    rw (← c₄ .before .before .ending .ensures, ne-eqb _ _ (c₄ .if1 .left)) (c₂ .put-fields .ensures)
 
 pub put-line-spec : {M : Type 1} → statement M
-put-line-spec = tie.close (tie.spec (search needs) (search needs) (search needs) (search needs) (search needs) (search needs) (search needs) (search needs) (search needs) (search needs) (search needs) (search needs) returns (search needs) returns-2 (search needs) returns-3 (search needs) returns-4 (search needs) returns-5)
+put-line-spec = tie.close (tie.spec (search needs) (search needs) (search needs) (search needs) returns (search needs) (search needs) returns-2)
