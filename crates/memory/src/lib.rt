@@ -169,3 +169,10 @@ pub fn pull_address(registers: Registers, memory: &[u8]) -> PulledAddress
         registers: after,
     }
 }
+
+// Room for an image of the memory and one byte more, so that a longer one shows.
+pub fn image_buffer() -> [u8; 65537]
+    ensures { λ r. ⌜ 65537 ≡ length r ⌝ }
+{
+    [0; 65537]
+}

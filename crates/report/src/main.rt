@@ -2,21 +2,13 @@
 //
 // The image is standard input, or those in the files that are named, where `-` is standard input. What the line says is
 // promised by the crate reporting; here it is only read and written.
-ghost use mathlib.Core.Path.{_≡_};
-ghost use lib.ListN.{length};
 use cpu::RunAnswer;
 use libc::STDERR_FILENO;
 use libc::STDIN_FILENO;
 use libc::STDOUT_FILENO;
+use memory::image_buffer;
 use reporting::put_sentence;
 use reporting::report;
-
-// Room for an image and one byte more, so that a longer one shows.
-fn image_buffer() -> [u8; 65537]
-    ensures { λ r. ⌜ 65537 ≡ length r ⌝ }
-{
-    [0; 65537]
-}
 
 // 66 is the most that a sentence or a line can have: see `put_sentence` and `report`.
 fn explain(answer: RunAnswer, image: &[u8]) {

@@ -19,3 +19,4 @@ pub use number::Byte;
 pub use number::NOWHERE;
 pub use number::read_byte;
 pub use number::read_mark;
+pub use number::read_word;

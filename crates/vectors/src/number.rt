@@ -13,7 +13,7 @@ pub struct Byte {
 }
 
 // The same for 16 bits.
-pub(crate) struct Word {
+pub struct Word {
     pub value: u16,
     pub next: usize,
 }
@@ -81,7 +81,7 @@ pub fn read_byte(text: &[u8], at: usize) -> Byte
 }
 
 // Four hexadecimal digits.
-pub(crate) fn read_word(text: &[u8], at: usize) -> Word
+pub fn read_word(text: &[u8], at: usize) -> Word
     ensures { λ r. ⌜ r ≡ wordAt (now (text .entry)) at ⌝ }
 {
     let high = read_byte(text, at);

@@ -1,0 +1,43 @@
+-- The loop's invariant: the bytes that are left are those from the address on.
+use Prim.Native.Nat.{_≤_, _-_}
+use mathlib.Core.Path.{_≡_, refl}
+use native.Mathlib.Omega.{arith}
+use lib.ListN.{length}
+use Rattle.text.specs.Written.{most}
+use Rattle.text.specs.Left.{Left, less-left, none-left}
+use Rattle.listing.specs.Lines.{bytesFrom, field}
+use Rattle.listing.specs.Laws.{next-byte, none-byte}
+use borrow.Author.Needs.{needs}
+use Rattle.listing.proofs.line.put_bytes.Statement.{statement}
+use Rattle.listing.proofs.line.put_bytes.Tie as tie
+
+abbrev Inv-loop : tie.InvT-loop
+Inv-loop out₀ at memory start end next₀ address₀ out next address =
+    (length out ≡ length out₀)
+    × (address ≤ end)
+    × (next ≤ most)
+    × Left out next (field (bytesFrom memory address (end - address))) out₀ at (field (bytesFrom memory start (end - start)))
+
+abbrev μ-loop : tie.MeasureT-loop
+μ-loop out₀ at memory start end next₀ address₀ out next address = end - address
+
+loop-holds : tie.Need-loop-holds Inv-loop μ-loop
+loop-holds c = (refl, omega arith, omega arith, λ k j w. w)
+
+loop-again : tie.Need-loop-again Inv-loop μ-loop
+loop-again c =
+    let c₂ = c .before .before in
+    let h = c₂ .before .before .before .before .loop in
+    let wrote = c₂ .put-spaced-hex2 .ensures in
+    (omega (arith, c₂ .put-spaced-hex2 .kept, h .inv .0), omega arith, omega (arith, wrote .ends), less-left (h .inv .3) (next-byte _ (h .address) _ (omega arith)) wrote)
+
+same-length : tie.Need-same-length Inv-loop μ-loop
+same-length c = c .before .loop .inv .0
+
+returns : tie.Need-returns Inv-loop μ-loop
+returns c =
+    let h = c .before .loop in
+    none-left (h .inv .3) (none-byte _ (h .address) _ (omega arith)) (omega arith) (h .inv .2)
+
+pub put-bytes-spec : {M : Type 1} → statement M
+put-bytes-spec = tie.close (tie.spec Inv-loop μ-loop loop-holds (search needs) (search needs) (search needs) (omega arith) loop-again same-length returns)

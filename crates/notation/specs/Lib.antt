@@ -1,0 +1,4 @@
+pub mod Names
+pub mod Operands
+pub mod NameTable
+pub mod Marks
