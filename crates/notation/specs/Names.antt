@@ -1,4 +1,4 @@
--- The 56 names (manual, appendix A).
+-- The 56 names (manual, appendices).
 use Prim.Native.Nat.{ℕ}
 use mathlib.Core.List.{List}
 use Rattle.instruction.specs.declared.Instruction.{Instruction}
