@@ -1,4 +1,4 @@
--- Signed numbers in 32 bits: a byte as a signed number, the sums and differences behind the overflow flag, and the sum behind a branch. Each is
+-- Signed numbers in 32 bits: a byte as a signed number, the sum behind the overflow flag, and the sum behind a branch. Each is
 -- known as a difference of natural numbers, which `omega` reads.
 use Prim.Native.Nat.{ℕ, _+_, _-_, _*_, _/_, _%_, _^_, _≤_, _<_}
 use mathlib.Core.Path.{_≡_}
@@ -35,18 +35,15 @@ natural-read n h = kept (natural n) (omega arith)
 byte-read : (b : ℕ) {z : ℤ} → b < 256 → z ≡ signed b → Difference (held z) b (256 * (b / 128))
 byte-read b h e = rw e (kept (of-byte b h) (omega arith))
 
-pub low-byte : (b : ℕ) → b < 128 → toZ w32 b ≡ signed b
-low-byte b h = same (natural-read b (omega arith)) (of-byte b (omega arith)) (omega arith)
+module _ (b t : ℕ) (byte : b < 256) (turn : t ≡ (b + 128) % 256) where
+  lowered : Difference (toZ w32 t -ℤ pos 128) (t + 0) (0 + 128)
+  lowered = sum (natural-read t (omega arith)) (negated (natural 128))
 
-module _ (b : ℕ) (high : 128 ≤ b) (byte : b < 256) where
-  less : Difference (toZ w32 b -ℤ pos 256) (b + 0) (0 + 256)
-  less = sum (natural-read b (omega arith)) (negated (natural 256))
+  pub turned-fits : SFits w32 (toZ w32 t -ℤ pos 128)
+  turned-fits = fits lowered (omega arith)
 
-  pub high-byte-fits : SFits w32 (toZ w32 b -ℤ pos 256)
-  high-byte-fits = fits less (omega arith)
-
-  pub high-byte : held (toZ w32 b -ℤ pos 256) ≡ signed b
-  high-byte = same (kept less (omega arith)) (of-byte b byte) (omega arith)
+  pub turned : held (toZ w32 t -ℤ pos 128) ≡ signed b
+  turned = same (kept lowered (omega arith)) (of-byte b byte) (omega arith)
 
 -- ---- two bytes and a flag
 
@@ -57,12 +54,6 @@ module _ {a m : ℕ} {x y : ℤ} (a-byte : a < 256) (m-byte : m < 256) (x-signed
   pub sum-fits : SFits w32 (held x +ℤ held y)
   sum-fits = fits added (omega arith)
 
-  taken : Difference (held x -ℤ held y) (a + 256 * (m / 128)) (256 * (a / 128) + m)
-  taken = sum (byte-read a a-byte x-signed) (negated (byte-read m m-byte y-signed))
-
-  pub difference-fits : SFits w32 (held x -ℤ held y)
-  difference-fits = fits taken (omega arith)
-
   module _ {k : ℕ} (flag : k ≤ 1) where
     added-flag : Difference (held (held x +ℤ held y) +ℤ toZ w32 k) (a + m + k) (256 * (a / 128) + 256 * (m / 128) + 0)
     added-flag = sum (kept added (omega arith)) (natural-read k (omega arith))
@@ -72,16 +63,6 @@ module _ {a m : ℕ} {x y : ℤ} (a-byte : a < 256) (m-byte : m < 256) (x-signed
 
     pub sum-and-flag : held (held (held x +ℤ held y) +ℤ toZ w32 k) ≡ signed a +ℤ signed m +ℤ pos k
     sum-and-flag = same (kept added-flag (omega arith)) (sum (sum (of-byte a a-byte) (of-byte m m-byte)) (natural k)) (omega arith)
-
-    taken-flag : Difference (held (held x -ℤ held y) -ℤ toZ w32 k) (a + 256 * (m / 128) + 0) (256 * (a / 128) + m + k)
-    taken-flag = sum (kept taken (omega arith)) (negated (natural-read k (omega arith)))
-
-    pub difference-and-flag-fits : SFits w32 (held (held x -ℤ held y) -ℤ toZ w32 k)
-    difference-and-flag-fits = fits taken-flag (omega arith)
-
-    pub difference-and-flag : held (held (held x -ℤ held y) -ℤ toZ w32 k) ≡ signed a -ℤ signed m -ℤ pos k
-    difference-and-flag =
-        same (kept taken-flag (omega arith)) (sum (sum (of-byte a a-byte) (negated (of-byte m m-byte))) (negated (natural k))) (omega arith)
 
 -- ---- an address and a byte
 
