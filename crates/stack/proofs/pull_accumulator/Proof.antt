@@ -6,7 +6,7 @@ use Rattle.stack.proofs.pull_accumulator.Statement.{statement}
 use Rattle.stack.proofs.pull_accumulator.Tie as tie
 
 returns : tie.Need-returns
-returns c = pull-accumulator-gives _ _ _ (c .before .before .pull-from-stack .ensures) ∙ rw (c .load-accumulator .ensures, c .before .advanced .ensures)
+returns c = pull-accumulator-gives _ _ _ (c .before .before .before .pull-from-stack .ensures) ∙ rw (c .leaves .ensures, c .before .load-accumulator .ensures, c .before .before .advanced .ensures)
 
 pub pull-accumulator-spec : {M : Type 1} → statement M
-pull-accumulator-spec = tie.close (tie.spec (search needs) (search needs) (search needs) returns)
+pull-accumulator-spec = tie.close (tie.spec (search needs) (search needs) (search needs) (search needs) returns)

@@ -7,10 +7,10 @@ use Rattle.stack.proofs.pull_status.Tie as tie
 
 returns : tie.Need-returns
 returns c =
-    let c₂ = c .before .before in
+    let c₂ = c .before .before .before in
     let c₃ = c₂ .before in
     pull-status-gives _ _ _ (c₃ .pull-from-stack .ensures)
-    ∙ rw (c .with-status .ensures, c .before .pulled .ensures, c₂ .advanced .ensures)
+    ∙ rw (c .leaves .ensures, c .before .with-status .ensures, c .before .before .pulled .ensures, c₂ .advanced .ensures)
 
 pub pull-status-spec : {M : Type 1} → statement M
-pull-status-spec = tie.close (tie.spec (search needs) (search needs) (search needs) (search needs) returns)
+pull-status-spec = tie.close (tie.spec (search needs) (search needs) (search needs) (search needs) (search needs) returns)
