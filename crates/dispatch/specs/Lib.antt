@@ -1,0 +1,4 @@
+pub mod Dispatching
+pub mod Codes
+pub mod Rows
+pub mod Steps

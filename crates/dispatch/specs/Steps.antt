@@ -1,0 +1,45 @@
+-- A step from what its opcode does.
+use Prim.Native.Nat.{ℕ, _+_, _≤_}
+use mathlib.Core.Path.{_≡_, refl, ap, sym, _∙_, subst}
+use mathlib.Core.List.{List}
+use native.Mathlib.Omega.{arith}
+use Rattle.instruction.specs.declared.Decoded.{Decoded}
+use Rattle.instruction.specs.declared.Decoded.the-variants.{Defined, Undefined}
+use Rattle.instruction.specs.Opcodes.{decoded}
+use Rattle.instruction.specs.Table.{ruled}
+use Rattle.manual.specs.declared.Machine.{Machine}
+use Rattle.manual.specs.declared.Stepped.{Stepped}
+use Rattle.manual.specs.declared.Reason.the-variants.{Made}
+use Rattle.manual.specs.Micro.{exec, Gives}
+use Rattle.manual.specs.Outcomes.{machineOf, stepped}
+use Rattle.manual.specs.Instructions.{perform}
+use Rattle.manual.specs.Stepping.{highestCount, stepFull}
+use Rattle.manual.specs.Theorems.Extra.{extra-most}
+use Rattle.manual.specs.Theorems.Programs.{exec-bind}
+use Rattle.manual.specs.Theorems.StepLaws.{opcodeOf, step-defined, step-undefined}
+use Rattle.dispatch.specs.declared.Dispatched.{Dispatched}
+use Rattle.dispatch.specs.Dispatching.{counted, dispatched, stepBy, cyclesOf}
+
+-- Where there is room, the step is what the byte at the counter does, and it takes at most seven cycles.
+pub record StepsBy (s : Machine) (m : List ℕ) (q : Dispatched) (m′ : List ℕ) : Type 0 where
+  pub gives : Gives (stepFull s) m (stepBy s q) m′
+  pub few : cyclesOf q ≤ 7
+
+module _ (s : Machine) (m : List ℕ) (room : s .cycles ≤ highestCount) where
+  by-meaning : (d : Decoded) → decoded (opcodeOf s m) ≡ d → StepsBy s m (exec (dispatched d (s .registers)) m .0) (exec (dispatched d (s .registers)) m .1)
+  unfolding dispatched
+  by-meaning (Defined e) is =
+      let w = exec (perform (e .instruction) (e .mode) (s .registers)) m in
+      let total : s .cycles + e .cycles + w .0 .extra ≡ s .cycles + (e .cycles + w .0 .extra) = omega arith in
+      subst (λ (p : Dispatched × List ℕ). StepsBy s m (p .0) (p .1)) (sym (exec-bind (perform (e .instruction) (e .mode) (s .registers)) _ m))
+      (record {
+        gives = step-defined s m e {f = w .0} room is refl ∙ ap (λ (n : ℕ). (stepped Made (w .0 .first) (machineOf (w .0 .registers) n), w .1)) total;
+        few = omega (arith, ruled (opcodeOf s m) e is .total-most, extra-most (e .instruction) (e .mode) (s .registers) m);
+      })
+  by-meaning Undefined is = record { gives = step-undefined s m room is; few = omega arith }
+
+  pub step-by : (opcode : ℕ) {q : Dispatched} {m′ : List ℕ} → opcode ≡ opcodeOf s m → Gives (dispatched (decoded opcode) (s .registers)) m q m′
+      → StepsBy s m q m′
+  step-by opcode e g =
+      subst (λ (p : Dispatched × List ℕ). StepsBy s m (p .0) (p .1)) (ap (λ (k : ℕ). exec (dispatched (decoded k) (s .registers)) m) (sym e) ∙ g)
+      (by-meaning (decoded (opcodeOf s m)) refl)

@@ -1,0 +1,19 @@
+-- The registers as one number, and those of a number.
+use Prim.Native.Nat.{ℕ, _+_, _*_, _/_, _%_, _^_}
+use Rattle.registers.specs.declared.Registers.{Registers}
+use Rattle.registers.specs.State.{registersOf}
+use Rattle.registers.specs.StatusByte.{pushedByte, pulledStatus}
+
+-- A, X, Y, S and the status as PHP pushes it, a byte each from the lowest on, then the counter
+unfoldable pub packed : Registers → ℕ
+packed r =
+    r .accumulator
+    + r .x * 2 ^ 8
+    + r .y * 2 ^ 16
+    + r .stack .0 * 2 ^ 24
+    + pushedByte (r .status) * 2 ^ 32
+    + r .counter * 2 ^ 40
+
+unfoldable pub unpacked : ℕ → Registers
+unpacked n =
+    registersOf (n % 256) (n / 2 ^ 8 % 256) (n / 2 ^ 16 % 256) (n / 2 ^ 24 % 256) (n / 2 ^ 40 % 65536) (pulledStatus (n / 2 ^ 32 % 256))
