@@ -3,7 +3,8 @@ ghost use mathlib.Core.Path.{_≡_};
 ghost use lib.ListN.{length};
 ghost use Rattle.manual.specs.Micro.{Gives};
 ghost use Rattle.manual.specs.Branching.{holds, branched};
-ghost use Rattle.manual.specs.Instructions.{stored, past, perform};
+ghost use Rattle.manual.specs.Instructions.{stored, advanced, perform};
+ghost use Rattle.manual.specs.Stepping.{fullMemory};
 ghost use Rattle.manual.specs.Shifting.{modified, modifiedFlags};
 ghost use Rattle.registers.specs.State.{setA};
 use addressing::advanced;
@@ -21,6 +22,8 @@ use instruction::ReadOperation;
 use instruction::StoreOperation;
 use manual::Effect;
 use manual::Target;
+use manual::leaves;
+use manual::leaves_at;
 use memory::Address;
 use memory::get_byte;
 use memory::set_byte;
@@ -36,25 +39,24 @@ use stack::push_status;
 use stack::return_from_interrupt;
 use stack::return_from_subroutine;
 
-pub fn read(
+// Loads, logic, ADC, SBC, compares and BIT: a page cross is charged.
+fn read(
     operation: ReadOperation,
     mode: AddressingMode,
     registers: Registers,
     memory: &[u8],
 ) -> Effect
-    requires { ⌜ length (now memory) ≡ 65536 ⌝ }
+    requires { ⌜ length (now memory) ≡ fullMemory ⌝ }
     ensures { λ r. ⌜ Gives (perform (Instruction.Read operation) mode registers) (now (memory .entry)) r (now (memory .entry)) ⌝ }
 {
     let target = target_of(mode, registers, memory);
     let byte = get_byte(memory, Address(target.address));
     let after = apply_read(operation, advanced(mode, registers), byte);
-    Effect {
-        registers: after,
-        extra: flag(target.crossed),
-    }
+    leaves_at(target.first, after, flag(target.crossed))
 }
 
-fn register_of(operation: StoreOperation, registers: Registers) -> u8
+// The register that is stored.
+fn stored(operation: StoreOperation, registers: Registers) -> u8
     ensures { λ r. ⌜ r ≡ stored operation registers ⌝ }
 {
     match operation {
@@ -64,28 +66,26 @@ fn register_of(operation: StoreOperation, registers: Registers) -> u8
     }
 }
 
-pub fn store(
+// Stores: no page cross is charged.
+fn store(
     operation: StoreOperation,
     mode: AddressingMode,
     registers: Registers,
     memory: &mut [u8],
 ) -> Effect
-    requires { ⌜ length (now memory) ≡ 65536 ⌝ }
+    requires { ⌜ length (now memory) ≡ fullMemory ⌝ }
     ensures { λ r. ⌜ Gives (perform (Instruction.Store operation) mode registers) (now (memory .entry)) r (now (memory .exit)) ⌝ }
 {
     let target = target_of(mode, registers, memory);
     set_byte(
         memory,
         Address(target.address),
-        register_of(operation, registers),
+        stored(operation, registers),
     );
-    let after = advanced(mode, registers);
-    Effect {
-        registers: after,
-        extra: 0,
-    }
+    leaves_at(target.first, advanced(mode, registers), 0)
 }
 
+// A modification of the accumulator.
 fn modify_accumulator(
     operation: ModifyOperation,
     mode: AddressingMode,
@@ -94,28 +94,25 @@ fn modify_accumulator(
     ensures { λ r.
         ⌜ r
         ≡ setA (modified operation (registers .accumulator) (registers .status .carry))
-        (modifiedFlags operation (registers .accumulator) (past mode registers)) ⌝ }
+        (modifiedFlags operation (registers .accumulator) (advanced mode registers)) ⌝ }
 {
     let byte = registers.accumulator;
     let changed = modify_byte(operation, byte, registers.status.carry);
     set_flags_from_modified(operation, advanced(mode, registers), byte).with_accumulator(changed)
 }
 
-pub fn modify(
+// Shifts, rotates, INC and DEC: with no operand byte it is the accumulator that is modified, and no page cross is charged.
+fn modify(
     operation: ModifyOperation,
     mode: AddressingMode,
     registers: Registers,
     memory: &mut [u8],
 ) -> Effect
-    requires { ⌜ length (now memory) ≡ 65536 ⌝ }
+    requires { ⌜ length (now memory) ≡ fullMemory ⌝ }
     ensures { λ r. ⌜ Gives (perform (Instruction.Modify operation) mode registers) (now (memory .entry)) r (now (memory .exit)) ⌝ }
 {
     if mode.extra_bytes() == 0 {
-        let after = modify_accumulator(operation, mode, registers);
-        return Effect {
-            registers: after,
-            extra: 0,
-        };
+        return leaves(modify_accumulator(operation, mode, registers), 0);
     }
     let target = target_of(mode, registers, memory);
     let byte = get_byte(memory, Address(target.address));
@@ -125,13 +122,11 @@ pub fn modify(
         modify_byte(operation, byte, registers.status.carry),
     );
     let after = set_flags_from_modified(operation, advanced(mode, registers), byte);
-    Effect {
-        registers: after,
-        extra: 0,
-    }
+    leaves_at(target.first, after, 0)
 }
 
-fn condition(operation: BranchOperation, status: Status) -> bool
+// Whether the condition of a branch holds.
+fn holds(operation: BranchOperation, status: Status) -> bool
     ensures { λ r. ⌜ r ≡ holds operation status ⌝ }
 {
     match operation {
@@ -146,42 +141,35 @@ fn condition(operation: BranchOperation, status: Status) -> bool
     }
 }
 
-fn branch_if(taken: bool, target: Target, registers: Registers) -> Effect
+// Taken: one cycle more, and another one for another page.
+fn branched(taken: bool, target: Target, registers: Registers) -> Effect
     ensures { λ r. ⌜ r ≡ branched taken target registers ⌝ }
 {
     if taken {
         let after = registers.with_counter(target.address);
-        Effect {
-            registers: after,
-            extra: 1 + flag(target.crossed),
-        }
+        leaves(after, 1 + flag(target.crossed))
     } else {
-        Effect {
-            registers: registers,
-            extra: 0,
-        }
+        leaves(registers, 0)
     }
 }
 
-pub fn branch(
+// Branches.
+fn branch(
     operation: BranchOperation,
     mode: AddressingMode,
     registers: Registers,
     memory: &[u8],
 ) -> Effect
-    requires { ⌜ length (now memory) ≡ 65536 ⌝ }
+    requires { ⌜ length (now memory) ≡ fullMemory ⌝ }
     ensures { λ r. ⌜ Gives (perform (Instruction.Branch operation) mode registers) (now (memory .entry)) r (now (memory .entry)) ⌝ }
 {
     let target = target_of(mode, registers, memory);
     let status = registers.status;
-    branch_if(
-        condition(operation, status),
-        target,
-        advanced(mode, registers),
-    )
+    branched(holds(operation, status), target, advanced(mode, registers))
 }
 
-pub fn internal(
+// The operations on registers and flags alone.
+fn internal(
     operation: InternalOperation,
     mode: AddressingMode,
     registers: Registers,
@@ -189,32 +177,26 @@ pub fn internal(
 ) -> Effect
     ensures { λ r. ⌜ Gives (perform (Instruction.Internal operation) mode registers) (now (memory .entry)) r (now (memory .entry)) ⌝ }
 {
-    let after = apply_internal(operation, advanced(mode, registers));
-    Effect {
-        registers: after,
-        extra: 0,
-    }
+    leaves(apply_internal(operation, advanced(mode, registers)), 0)
 }
 
-pub fn jump(mode: AddressingMode, registers: Registers, memory: &[u8]) -> Effect
-    requires { ⌜ length (now memory) ≡ 65536 ⌝ }
+// JMP.
+fn jump(mode: AddressingMode, registers: Registers, memory: &[u8]) -> Effect
+    requires { ⌜ length (now memory) ≡ fullMemory ⌝ }
     ensures { λ r. ⌜ Gives (perform Instruction.JMP mode registers) (now (memory .entry)) r (now (memory .entry)) ⌝ }
 {
     let target = target_of(mode, registers, memory);
-    let after = registers.with_counter(target.address);
-    Effect {
-        registers: after,
-        extra: 0,
-    }
+    leaves_at(target.first, registers.with_counter(target.address), 0)
 }
 
+// An instruction in an addressing mode, by its class.
 pub fn execute_instruction(
     instruction: Instruction,
     mode: AddressingMode,
     registers: Registers,
     memory: &mut [u8],
 ) -> Effect
-    requires { ⌜ length (now memory) ≡ 65536 ⌝ }
+    requires { ⌜ length (now memory) ≡ fullMemory ⌝ }
     ensures { λ r. ⌜ Gives (perform instruction mode registers) (now (memory .entry)) r (now (memory .exit)) ⌝ }
 {
     match instruction {

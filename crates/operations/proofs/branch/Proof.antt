@@ -10,7 +10,7 @@ returns c =
     let c₂ = c .before .before in
     let c₄ = c₂ .before .before in
     branch-gives _ _ _ _ (c₄ .target-of .ensures) _
-    ∙ rw (c .branch-if .ensures, c .before .advanced .ensures, c₂ .condition .ensures)
+    ∙ rw (c .branched .ensures, c .before .advanced .ensures, c₂ .holds .ensures)
 
 pub branch-spec : {M : Type 1} → statement M
 branch-spec = tie.close (tie.spec (search needs) (search needs) (search needs) (search needs) returns)

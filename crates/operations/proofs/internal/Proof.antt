@@ -6,7 +6,7 @@ use Rattle.operations.proofs.internal.Tie as tie
 
 returns : tie.Need-returns
 unfolding perform
-returns c = rw (c .apply-internal .ensures, c .before .advanced .ensures)
+returns c = rw (c .leaves .ensures, c .before .apply-internal .ensures, c .before .before .advanced .ensures)
 
 pub internal-spec : {M : Type 1} → statement M
-internal-spec = tie.close (tie.spec (search needs) (search needs) returns)
+internal-spec = tie.close (tie.spec (search needs) (search needs) (search needs) returns)
