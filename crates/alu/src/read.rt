@@ -1,6 +1,7 @@
 // What the operations that read a byte do with it.
+ghost use mathlib.Core.Bool.{cond};
 ghost use mathlib.Core.Path.{_≡_};
-ghost use Rattle.manual.specs.Instructions.{arithmetic, taken};
+ghost use Rattle.manual.specs.Instructions.{sum, difference, withOutput, taken};
 use crate::flags::bit_test;
 use crate::flags::compare;
 use crate::flags::load_accumulator;
@@ -18,52 +19,70 @@ use registers::Registers;
 
 // The registers after ADC or SBC: N and Z are those of the result.
 fn with_output(registers: Registers, output: ArithmeticOutput) -> Registers
-    ensures { λ r. ⌜ r ≡ arithmetic output registers ⌝ }
+    ensures { λ r. ⌜ r ≡ withOutput output registers ⌝ }
 {
     let carried = set_carry(registers, output.carry);
     load_accumulator(set_overflow(carried, output.overflow), output.result)
 }
 
-pub fn add_with_carry(registers: Registers, value: u8) -> Registers
+// One of two outputs. Both are worked out before it: without a jump between them the compiler keeps ADC and SBC in line.
+fn pick(first: bool, one: ArithmeticOutput, other: ArithmeticOutput) -> ArithmeticOutput
+    ensures { λ r. ⌜ r ≡ cond first one other ⌝ }
+{
+    if first { one } else { other }
+}
+
+// What ADC gives, decimal where D is set.
+fn sum(value: u8, registers: Registers) -> ArithmeticOutput
+    ensures { λ r. ⌜ r ≡ sum value registers ⌝ }
+{
+    let carry = registers.status.carry;
+    let decimal = adc_decimal(registers.accumulator, value, carry);
+    let binary = adc_binary(registers.accumulator, value, carry);
+    pick(registers.status.decimal, decimal, binary)
+}
+
+// What SBC gives, decimal where D is set.
+fn difference(value: u8, registers: Registers) -> ArithmeticOutput
+    ensures { λ r. ⌜ r ≡ difference value registers ⌝ }
+{
+    let carry = registers.status.carry;
+    let decimal = sbc_decimal(registers.accumulator, value, carry);
+    let binary = sbc_binary(registers.accumulator, value, carry);
+    pick(registers.status.decimal, decimal, binary)
+}
+
+fn add_with_carry(registers: Registers, value: u8) -> Registers
     ensures { λ r. ⌜ r ≡ taken ReadOperation.ADC value registers ⌝ }
 {
-    let carry = registers.status.carry;
-    if registers.status.decimal {
-        with_output(registers, adc_decimal(registers.accumulator, value, carry))
-    } else {
-        with_output(registers, adc_binary(registers.accumulator, value, carry))
-    }
+    with_output(registers, sum(value, registers))
 }
 
-pub fn subtract_with_carry(registers: Registers, value: u8) -> Registers
+fn subtract_with_carry(registers: Registers, value: u8) -> Registers
     ensures { λ r. ⌜ r ≡ taken ReadOperation.SBC value registers ⌝ }
 {
-    let carry = registers.status.carry;
-    if registers.status.decimal {
-        with_output(registers, sbc_decimal(registers.accumulator, value, carry))
-    } else {
-        with_output(registers, sbc_binary(registers.accumulator, value, carry))
-    }
+    with_output(registers, difference(value, registers))
 }
 
-pub fn and(registers: Registers, value: u8) -> Registers
+fn and(registers: Registers, value: u8) -> Registers
     ensures { λ r. ⌜ r ≡ taken ReadOperation.AND value registers ⌝ }
 {
     load_accumulator(registers, registers.accumulator & value)
 }
 
-pub fn inclusive_or(registers: Registers, value: u8) -> Registers
+fn inclusive_or(registers: Registers, value: u8) -> Registers
     ensures { λ r. ⌜ r ≡ taken ReadOperation.ORA value registers ⌝ }
 {
     load_accumulator(registers, registers.accumulator | value)
 }
 
-pub fn exclusive_or(registers: Registers, value: u8) -> Registers
+fn exclusive_or(registers: Registers, value: u8) -> Registers
     ensures { λ r. ⌜ r ≡ taken ReadOperation.EOR value registers ⌝ }
 {
     load_accumulator(registers, registers.accumulator ^ value)
 }
 
+// What an operation does with the byte that it read.
 pub fn apply_read(operation: ReadOperation, registers: Registers, value: u8) -> Registers
     ensures { λ r. ⌜ r ≡ taken operation value registers ⌝ }
 {

@@ -1,4 +1,4 @@
--- The 151 documented opcodes, laid out as document 01 lists them, with their base cycles (manual, appendices; document 01 for the numbers).
+-- The 151 documented opcodes, laid out as docs/RULES.md lists them, with their base cycles (manual, appendices; the rules for the numbers).
 use Prim.Native.Nat.{ℕ}
 use mathlib.Core.Bool.{cond}
 use mathlib.Core.List.{List, [], _∷_, _++_}

@@ -1,1 +1,1 @@
-// Laws of numbers that belong to no layer of the machine. There is no code here: see specs/.
+// What belongs to no layer of the machine: laws of numbers, and the characters of a text. There is no code here: see specs/.

@@ -1,27 +1,35 @@
 -- Laws of the lines, for the proofs of the code: `end` is the address after the stretch.
-use Prim.Native.Nat.{ℕ, zero, suc, _+_, _-_, _*_, _≤_, _<_}
-use mathlib.Core.Path.{_≡_, refl, ap, sym, _∙_}
-use mathlib.Core.List.{List, [], _∷_, _++_}
-use native.Mathlib.Nat.{add-zero}
+use Prim.Native.Nat.{ℕ, zero, suc, _+_, _-_, _≤_, _<_}
+use mathlib.Core.Path.{_≡_, refl, ap, _∙_}
+use mathlib.Core.List.{List, [], _++_}
 use native.Mathlib.Numerals.{add-one}
 use native.Mathlib.Omega.{arith}
 use lib.ListN.{getD}
 use borrow.Author.Tests.{le-leb, lt-leb}
-use Rattle.instruction.specs.declared.Instruction.{Instruction}
 use Rattle.instruction.specs.declared.AddressingMode.{AddressingMode}
+use Rattle.instruction.specs.declared.AddressingMode.the-variants.{Accumulator, Implied, Immediate, ZeroPage, ZeroPageX, ZeroPageY, Relative, Absolute, AbsoluteX, AbsoluteY, BuggyIndirect, IndexedIndirectX, IndirectIndexedY}
 use Rattle.instruction.specs.declared.Entry.{Entry}
 use Rattle.instruction.specs.declared.Decoded.{Decoded}
 use Rattle.instruction.specs.declared.Decoded.the-variants.{Defined, Undefined}
 use Rattle.instruction.specs.Opcodes.{decoded}
 use Rattle.instruction.specs.Modes.{lengthOf}
-use Rattle.text.specs.Numerals.{hex2, spaced}
-use Rattle.notation.specs.Names.{mnemonic}
+use Rattle.manual.specs.Words.{address}
+use Rattle.opcodes.specs.Names.{nameOf}
 use Rattle.notation.specs.Operands.{operand}
-use Rattle.listing.specs.Lines.{Line, bytesFrom, size, lineOf, unknown, lines, field, text, texts}
+use Rattle.text.specs.Numerals.{hex2, spaced}
+use Rattle.listing.specs.Lines.{Line, bytesFrom, size, words, lineOf, unknown, lines, byteFields, text, texts}
 
+-- A line takes 1 to 3 bytes.
 pub size-some : (d : Decoded) → 0 < size d
 size-some Undefined = omega arith
 size-some (Defined e) = omega arith
+
+pub size-most : (d : Decoded) → size d ≤ 3
+size-most Undefined = omega arith
+size-most (Defined e) = at-most (e .mode)
+  where
+    at-most : (mode : AddressingMode) → lengthOf mode ≤ 3
+    at-most mode = elim mode [ Accumulator ↦ omega arith | Implied ↦ omega arith | Immediate ↦ omega arith | ZeroPage ↦ omega arith | ZeroPageX ↦ omega arith | ZeroPageY ↦ omega arith | Relative ↦ omega arith | Absolute ↦ omega arith | AbsoluteX ↦ omega arith | AbsoluteY ↦ omega arith | BuggyIndirect ↦ omega arith | IndexedIndirectX ↦ omega arith | IndirectIndexedY ↦ omega arith ]
 
 module _ (m : List ℕ) where
   same : {a b n k : ℕ} → a ≡ b → n ≡ k → lines m a n 0 ≡ lines m b k 0
@@ -46,19 +54,21 @@ module _ (m : List ℕ) where
       (skip (suc at) n (size d - 1) (omega arith)
       ∙ same {a = suc at + (size d - 1)} {b = at + size d} {n = n - (size d - 1)} {k = end - (at + size d)} (omega arith) (omega arith)))
 
-  -- The line of what stands at an address, and the lines after it.
-  pub next-line : (at end : ℕ) (d : Decoded) → decoded (getD m at 0) ≡ d → at + size d ≤ end
-      → texts (lines m at (end - at) 0) ≡ text (lineOf m at d) ++ texts (lines m (at + size d) (end - (at + size d)) 0)
-  next-line at end d e h = after-line at (end - at) end d e (omega arith) refl
-
   cut-at : (at n : ℕ) (d : Decoded) → decoded (getD m at 0) ≡ d → n < size d → lines m at n 0 ≡ unknown m at n
   unfolding lines
   cut-at at zero d e h = refl
   cut-at at (suc n) d e h = rw (e, lt-leb (size d) (suc n) h)
 
-  -- An instruction that would run past the end.
-  pub cut-line : (at end : ℕ) (d : Decoded) → decoded (getD m at 0) ≡ d → end < at + size d → lines m at (end - at) 0 ≡ unknown m at (end - at)
-  cut-line at end d e h = cut-at at (end - at) d e (omega (arith, size-some d))
+  module _ (at end : ℕ) {bytes : ℕ} (e : bytes ≡ size (decoded (getD m at 0))) where
+    -- The line of what stands at an address, and the lines after it.
+    pub next-line : at + bytes ≤ end
+        → texts (lines m at (end - at) 0)
+        ≡ text (lineOf m at (decoded (getD m at 0))) ++ texts (lines m (at + bytes) (end - (at + bytes)) 0)
+    next-line h = rw e (after-line at (end - at) end (decoded (getD m at 0)) refl (omega arith) refl)
+
+    -- An instruction that would run past the end.
+    pub cut-line : end < at + bytes → lines m at (end - at) 0 ≡ unknown m at (end - at)
+    cut-line h = cut-at at (end - at) (decoded (getD m at 0)) refl (omega (arith, size-some (decoded (getD m at 0))))
 
   -- one more of the bytes that are no whole instruction, and of those of a line
   pub next-unknown : (at end : ℕ) → at < end
@@ -67,11 +77,19 @@ module _ (m : List ℕ) where
       let one : end - at ≡ suc (end - (at + 1)) = omega arith in
       rw (one, add-one at)
 
-  pub next-byte : (at end : ℕ) → at < end
-      → field (bytesFrom m at (end - at)) ≡ spaced (hex2 (getD m at 0)) ++ field (bytesFrom m (at + 1) (end - (at + 1)))
-  next-byte at end h =
-      let one : end - at ≡ suc (end - (at + 1)) = omega arith in
-      rw (one, add-one at)
+  pub next-byte : (at i count : ℕ) → i < count
+      → byteFields (bytesFrom m (at + i) (count - i)) ≡ spaced (hex2 (getD m (address (at + i)) 0)) ++ byteFields (bytesFrom m (at + (i + 1)) (count - (i + 1)))
+  next-byte at i count h =
+      let one : count - i ≡ suc (count - (i + 1)) = omega arith in
+      let next : at + (i + 1) ≡ suc (at + i) = omega arith in
+      rw (one, next)
+
+  -- all of them are left at first
+  pub all-bytes : (at count : ℕ) → byteFields (bytesFrom m (at + 0) (count - 0)) ≡ byteFields (bytesFrom m at count)
+  all-bytes at count =
+      let from : at + 0 ≡ at = omega arith in
+      let left : count - 0 ≡ count = omega arith in
+      rw (from, left)
 
   -- and none
   pub none-unknown : (at end : ℕ) → end ≤ at → texts (unknown m at (end - at)) ≡ []
@@ -79,9 +97,9 @@ module _ (m : List ℕ) where
       let none : end - at ≡ 0 = omega arith in
       rw none
 
-  pub none-byte : (at end : ℕ) → end ≤ at → field (bytesFrom m at (end - at)) ≡ []
-  none-byte at end h =
-      let none : end - at ≡ 0 = omega arith in
+  pub none-byte : (at i count : ℕ) → count ≤ i → byteFields (bytesFrom m (at + i) (count - i)) ≡ []
+  none-byte at i count h =
+      let none : count - i ≡ 0 = omega arith in
       rw none
 
   pub none-line : (at end : ℕ) → end ≤ at → texts (lines m at (end - at) 0) ≡ []
@@ -90,10 +108,10 @@ module _ (m : List ℕ) where
       let none : end - at ≡ 0 = omega arith in
       rw none
 
-  -- The line of an instruction, with its parts as the code finds them.
-  pub next-known : (at end : ℕ) (e : Entry) {bytes : ℕ} {operation : Instruction} {mode : AddressingMode} → decoded (getD m at 0) ≡ Defined e
-      → operation ≡ e .instruction → mode ≡ e .mode → bytes ≡ lengthOf (e .mode) → at + bytes ≤ end
-      → texts (lines m at (end - at) 0)
-      ≡ text (record { address = at; bytes = bytesFrom m at bytes; words = mnemonic operation ++ operand mode m at })
-      ++ texts (lines m (at + bytes) (end - (at + bytes)) 0)
-  next-known at end e d o f b h = rw (o, f, b) (next-line at end (Defined e) d (omega (arith, b, h)))
+-- The words of a line, by what its opcode means.
+module _ (m : List ℕ) (at : ℕ) {d : Decoded} {name : List ℕ} (n : name ≡ nameOf d) where
+  pub words-undefined : d ≡ Undefined → name ≡ words m at d
+  words-undefined h = n ∙ rw h
+
+  pub words-defined : {e : Entry} → d ≡ Defined e → name ++ operand (e .mode) m at ≡ words m at d
+  words-defined h = rw (n, h)

@@ -1,8 +1,8 @@
 -- How long a listing can be.
-use Prim.Native.Nat.{ℕ, zero, suc, _+_, _-_, _*_, _≤_}
+use Prim.Native.Nat.{ℕ, zero, suc, _-_, _*_, _≤_}
 use mathlib.Core.Path.{_≡_, refl}
 use mathlib.Core.Bool.{Bool, true, false, cond}
-use mathlib.Core.List.{List, [], _∷_, _++_}
+use mathlib.Core.List.{List, [], _∷_}
 use native.Mathlib.Omega.{arith}
 use lib.Dec.{leb}
 use lib.ListN.{length, length-append, getD}
@@ -18,10 +18,11 @@ use Rattle.instruction.specs.declared.AddressingMode.the-variants.{Accumulator,
 use Rattle.instruction.specs.declared.Decoded.{Decoded}
 use Rattle.instruction.specs.declared.Decoded.the-variants.{Defined, Undefined}
 use Rattle.instruction.specs.Opcodes.{decoded}
-use Rattle.instruction.specs.Modes.{lengthOf}
-use Rattle.notation.specs.Names.{mnemonic}
-use Rattle.notation.specs.Operands.{operand}
-use Rattle.listing.specs.Lines.{Line, bytesFrom, size, words, lineOf, unknown, lines, field, text, texts}
+use Rattle.laws.specs.Characters.{characters}
+use Rattle.opcodes.specs.Names.{mnemonic, nameOf}
+use Rattle.notation.specs.Operands.{written, operand}
+use Rattle.listing.specs.Lines.{Line, bytesFrom, size, operandOf, lineOf, unknown, lines, byteFields, fields, text, texts, instructionAt}
+use Rattle.listing.specs.Laws.{size-most}
 
 -- Every name has three letters.
 pub three-letters : (i : Instruction) → length (mnemonic i) ≡ 3
@@ -44,9 +45,13 @@ three-letters PLP = refl
 three-letters RTI = refl
 three-letters RTS = refl
 
+name-length : (d : Decoded) → length (nameOf d) ≡ 3
+name-length Undefined = refl
+name-length (Defined e) = three-letters (e .instruction)
+
 module _ (m : List ℕ) (at : ℕ) where
   operand-length : (mode : AddressingMode) → length (operand mode m at) ≤ 8
-  unfolding operand
+  unfolding operand written
   operand-length Accumulator = omega arith
   operand-length Implied = omega arith
   operand-length Immediate = omega arith
@@ -61,24 +66,11 @@ module _ (m : List ℕ) (at : ℕ) where
   operand-length IndexedIndirectX = omega arith
   operand-length IndirectIndexedY = omega arith
 
-  words-length : (d : Decoded) → length (words m at d) ≤ 11
-  words-length Undefined = omega arith
-  words-length (Defined e) =
-      omega (
-        arith,
-        length-append (mnemonic (e .instruction)) (operand (e .mode) m at),
-        three-letters (e .instruction),
-        operand-length (e .mode),
-      )
+  operand-of-length : (d : Decoded) → length (operandOf m at d) ≤ 8
+  operand-of-length Undefined = omega arith
+  operand-of-length (Defined e) = operand-length (e .mode)
 
-size-most : (d : Decoded) → size d ≤ 3
-size-most Undefined = omega arith
-size-most (Defined e) = at-most (e .mode)
-  where
-    at-most : (mode : AddressingMode) → lengthOf mode ≤ 3
-    at-most mode = elim mode [ Accumulator ↦ omega arith | Implied ↦ omega arith | Immediate ↦ omega arith | ZeroPage ↦ omega arith | ZeroPageX ↦ omega arith | ZeroPageY ↦ omega arith | Relative ↦ omega arith | Absolute ↦ omega arith | AbsoluteX ↦ omega arith | AbsoluteY ↦ omega arith | BuggyIndirect ↦ omega arith | IndexedIndirectX ↦ omega arith | IndirectIndexedY ↦ omega arith ]
-
-field-length : (bs : List ℕ) → length (field bs) ≡ 3 * length bs
+field-length : (bs : List ℕ) → length (byteFields bs) ≡ 3 * length bs
 field-length [] = refl
 field-length (b ∷ bs) = let rest = field-length bs in omega arith
 
@@ -87,11 +79,17 @@ module _ (m : List ℕ) where
   bytes-length at zero = refl
   bytes-length at (suc n) = let rest = bytes-length (suc at) n in omega arith
 
-  -- at most 26 characters a line
-  line-length : (at : ℕ) (d : Decoded) → length (text (lineOf m at d)) ≤ 26
-  line-length at d =
+  fields-length : (at : ℕ) (d : Decoded) → length (fields (lineOf m at d)) ≤ 25
+  fields-length at d =
       simp length-append
-      (omega (arith, field-length (bytesFrom m at (size d)), bytes-length at (size d), size-most d, words-length m at d))
+      (omega (arith, field-length (bytesFrom m at (size d)), bytes-length at (size d), size-most d, name-length d, operand-of-length m at d))
+
+  -- at most 25 characters an instruction, and 26 a line
+  pub instruction-length : (at : ℕ) → length (instructionAt m at) ≤ 25
+  instruction-length at = fields-length at (decoded (getD m at 0))
+
+  line-length : (at : ℕ) (d : Decoded) → length (text (lineOf m at d)) ≤ 26
+  line-length at d = omega (arith, length-append (fields (lineOf m at d)) (characters "\n"), fields-length at d)
 
   unknown-length : (at n : ℕ) → length (texts (unknown m at n)) ≤ 26 * n
   unknown-length at zero = omega arith

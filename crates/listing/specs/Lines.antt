@@ -8,8 +8,10 @@ use Rattle.instruction.specs.declared.Decoded.{Decoded}
 use Rattle.instruction.specs.declared.Decoded.the-variants.{Defined, Undefined}
 use Rattle.instruction.specs.Opcodes.{decoded}
 use Rattle.instruction.specs.Modes.{lengthOf}
-use Rattle.text.specs.Numerals.{characters, hex2, hex4, spaced}
-use Rattle.notation.specs.Names.{mnemonic}
+use Rattle.manual.specs.Words.{address}
+use Rattle.laws.specs.Characters.{characters}
+use Rattle.text.specs.Numerals.{hex2, hex4, spaced}
+use Rattle.opcodes.specs.Names.{nameOf}
 use Rattle.notation.specs.Operands.{operand}
 
 -- a line: an address, the bytes from there on, and what they are
@@ -18,19 +20,22 @@ pub record Line : Type 0 where
   pub bytes : List ℕ
   pub words : List ℕ
 
--- n bytes of a memory from an address on
+-- n bytes of a memory from an address on, from FFFF on to 0000
 abbrev pub bytesFrom : List ℕ → ℕ → ℕ → List ℕ
 bytesFrom m at zero = []
-bytesFrom m at (suc n) = getD m at 0 ∷ bytesFrom m (suc at) n
+bytesFrom m at (suc n) = getD m (address at) 0 ∷ bytesFrom m (suc at) n
 
--- the bytes that a line takes, and the line, by what stands at its address
+-- the bytes that a line takes, its words and the line, by what stands at its address
 abbrev pub size : Decoded → ℕ
 size Undefined = 1
 size (Defined e) = lengthOf (e .mode)
 
+abbrev pub operandOf : List ℕ → ℕ → Decoded → List ℕ
+operandOf m at Undefined = []
+operandOf m at (Defined e) = operand (e .mode) m at
+
 abbrev pub words : List ℕ → ℕ → Decoded → List ℕ
-words m at Undefined = characters "???"
-words m at (Defined e) = mnemonic (e .instruction) ++ operand (e .mode) m at
+words m at d = nameOf d ++ operandOf m at d
 
 abbrev pub lineOf : List ℕ → ℕ → Decoded → Line
 lineOf m at d = record { address = at; bytes = bytesFrom m at (size d); words = words m at d }
@@ -50,12 +55,19 @@ lines m at (suc n) zero =
     cond (leb (size d) (suc n)) (lineOf m at d ∷ lines m (suc at) n (size d - 1)) (unknown m at (suc n))
 
 -- a line as text: its fields stand one space apart
-abbrev pub field : List ℕ → List ℕ
-field [] = []
-field (b ∷ bs) = spaced (hex2 b) ++ field bs
+abbrev pub byteFields : List ℕ → List ℕ
+byteFields [] = []
+byteFields (b ∷ bs) = spaced (hex2 b) ++ byteFields bs
+
+abbrev pub fields : Line → List ℕ
+fields l = hex4 (l .address) ++ byteFields (l .bytes) ++ spaced (l .words)
 
 abbrev pub text : Line → List ℕ
-text l = hex4 (l .address) ++ field (l .bytes) ++ spaced (l .words) ++ characters "\n"
+text l = fields l ++ characters "\n"
+
+-- the fields of the line of what stands at an address
+abbrev pub instructionAt : List ℕ → ℕ → List ℕ
+instructionAt m at = fields (lineOf m at (decoded (getD m at 0)))
 
 abbrev pub texts : List Line → List ℕ
 texts [] = []

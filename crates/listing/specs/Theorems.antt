@@ -1,6 +1,6 @@
 -- What a listing shows: every byte of its stretch once and in order, each line at the address of its bytes; and examples.
 use Prim.Native.Nat.{ℕ, zero, suc, _+_, _-_, _≤_}
-use mathlib.Core.Path.{_≡_, refl, ap, sym, _∙_}
+use mathlib.Core.Path.{_≡_, refl, ap, _∙_}
 use mathlib.Core.Bool.{Bool, true, false, cond}
 use mathlib.Core.List.{List, [], _∷_, _++_}
 use native.Mathlib.Omega.{arith}
@@ -8,14 +8,13 @@ use lib.Dec.{leb}
 use lib.ListN.{getD, replicate}
 use lib.Seq.{sets}
 use borrow.Author.Tests.{leb-true}
-use Rattle.instruction.specs.declared.Decoded.{Decoded}
-use Rattle.instruction.specs.declared.Decoded.the-variants.{Undefined}
 use Rattle.instruction.specs.Opcodes.{rows, decoded}
-use Rattle.manual.specs.Words.{signed, around}
+use Rattle.manual.specs.Words.{address, signed, around}
 use Rattle.manual.specs.Branching.{branchTarget}
-use Rattle.text.specs.Numerals.{characters, digit}
-use Rattle.notation.specs.Names.{mnemonic}
-use Rattle.notation.specs.Operands.{operand}
+use Rattle.laws.specs.Characters.{characters}
+use Rattle.text.specs.Numerals.{digit}
+use Rattle.opcodes.specs.Names.{mnemonic}
+use Rattle.notation.specs.Operands.{written, operand}
 use Rattle.listing.specs.Lines.{Line, bytesFrom, size, lineOf, unknown, lines}
 use Rattle.listing.specs.Listing.{listing}
 use Rattle.listing.specs.Laws.{size-some}
@@ -36,13 +35,13 @@ module _ (m : List ℕ) where
   split : (at n k : ℕ) → bytesFrom m at n ++ bytesFrom m (at + n) k ≡ bytesFrom m at (n + k)
   split at zero k = same {a = at + 0} {b = at} {n = k} {k = 0 + k} (omega arith) (omega arith)
   split at (suc n) k =
-      ap (λ (bs : List ℕ). getD m at 0 ∷ bytesFrom m (suc at) n ++ bs) (same {a = at + suc n} {b = suc at + n} {n = k} {k = k} (omega arith) refl)
-      ∙ ap (λ (bs : List ℕ). getD m at 0 ∷ bs) (split (suc at) n k)
+      ap (λ (bs : List ℕ). getD m (address at) 0 ∷ bytesFrom m (suc at) n ++ bs) (same {a = at + suc n} {b = suc at + n} {n = k} {k = k} (omega arith) refl)
+      ∙ ap (λ (bs : List ℕ). getD m (address at) 0 ∷ bs) (split (suc at) n k)
       ∙ same {a = at} {b = at} {n = suc (n + k)} {k = suc n + k} refl (omega arith)
 
   unknown-bytes : (at n : ℕ) → bytesOf (unknown m at n) ≡ bytesFrom m at n
   unknown-bytes at zero = refl
-  unknown-bytes at (suc n) = ap (λ (bs : List ℕ). getD m at 0 ∷ bs) (unknown-bytes (suc at) n)
+  unknown-bytes at (suc n) = ap (λ (bs : List ℕ). getD m (address at) 0 ∷ bs) (unknown-bytes (suc at) n)
 
   shown : (at n covered : ℕ) → covered ≤ n → bytesOf (lines m at n covered) ≡ bytesFrom m (at + covered) (n - covered)
   unfolding lines
@@ -70,8 +69,8 @@ module _ (m : List ℕ) where
 abbrev memory : ℕ → List ℕ → List ℕ
 memory at bytes = sets (replicate 65536 0) at bytes
 
--- Document 02's example, a branch, the accumulator form, a byte that is no opcode, and an instruction that the stretch cuts off.
+-- The rules' example, a branch, the accumulator form, a byte that is no opcode, and an instruction that the stretch cuts off.
 pub example-listing : listing (memory 0x10FB (0xA9 ∷ 0x05 ∷ 0xD0 ∷ 0x01 ∷ 0x0A ∷ 0x02 ∷ 0x6C ∷ 0xEA ∷ [])) 0x10FB 0x1102
     ≡ characters "10FB A9 05 LDA #$05\n10FD D0 01 BNE $1100\n10FF 0A ASL A\n1100 02 ???\n1101 6C ???\n1102 EA ???\n"
-unfolding listing lines mnemonic operand branchTarget signed around digit rows decoded
+unfolding listing lines mnemonic written operand branchTarget signed around digit rows decoded
 example-listing = refl

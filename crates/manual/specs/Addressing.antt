@@ -1,6 +1,6 @@
 -- The addressing modes (manual, chapters 5 and 6; relative, chapter 4). Operand bytes follow the opcode, from FFFF on to 0000.
 use Prim.Native.Nat.{ℕ, _+_}
-use mathlib.Core.Bool.{false, not}
+use mathlib.Core.Bool.{Bool, false, not}
 use lib.Dec.{eqb}
 use Rattle.registers.specs.declared.Registers.{Registers}
 use Rattle.instruction.specs.declared.AddressingMode.{AddressingMode}
@@ -25,21 +25,29 @@ word p q = do
 abbrev pub pointer : ℕ → ℕ → Micro ℕ
 pointer high b = word (joined high b) (joined high (low (b + 1)))
 
+-- an address that is not counted from another is put out at once
 abbrev pub plain : ℕ → Target
-plain p = record { address = p; crossed = false }
+plain p = record { address = p; crossed = false; first = p }
 
 -- a page is crossed where the high bytes differ: of base and sum, or of the advanced counter and the branch's target
-abbrev pub landing : ℕ → ℕ → Target
-landing base p = record { address = p; crossed = not (eqb (page base) (page p)) }
+abbrev pub differs : ℕ → ℕ → Bool
+differs base p = not (eqb (page base) (page p))
 
+-- an index is added to the low byte of the base first: until the carry has reached the high byte, the part puts out the base's page
 abbrev pub indexed : ℕ → ℕ → Target
-indexed base index = landing base (address (base + index))
+indexed base index =
+    let p = address (base + index) in
+    record { address = p; crossed = differs base p; first = joined (page base) (low p) }
+
+-- modes that have no address put none out: 0000
+abbrev pub silent : ℕ → Bool → Target
+silent p crossed = record { address = p; crossed = crossed; first = 0 }
 
 -- where each mode leads (the accumulator and implied forms lead nowhere: 0000, and no instruction asks)
 unfoldable pub target : AddressingMode → Registers → Micro Target
-target Accumulator r = done (plain 0)
-target Implied r = done (plain 0)
-target Immediate r = done (plain (operand r 1))
+target Accumulator r = done (silent 0 false)
+target Implied r = done (silent 0 false)
+target Immediate r = done (silent (operand r 1) false)
 target ZeroPage r = do
   b ← byte (operand r 1)
   done (plain (joined 0 b))
@@ -51,7 +59,8 @@ target ZeroPageY r = do
   done (plain (joined 0 (low (b + r .y))))
 target Relative r = do
   offset ← byte (operand r 1)
-  done (landing (operand r 2) (branchTarget (operand r 2) offset))
+  let goal = branchTarget (operand r 2) offset
+  done (silent goal (differs (operand r 2) goal))
 target Absolute r = do
   w ← word (operand r 1) (operand r 2)
   done (plain w)

@@ -13,6 +13,7 @@ use Rattle.manual.specs.declared.Effect.{Effect}
 use Rattle.manual.specs.declared.Target.{Target}
 use Rattle.manual.specs.Words.{low, signed, around}
 use Rattle.registers.specs.State.{setNZ, setV, setC, setPC, flags}
+use Rattle.manual.specs.Outcomes.{leaves}
 use Rattle.manual.specs.Flags.{shown}
 
 -- a register against a byte: C where it is at least the byte, N and Z of the difference
@@ -39,5 +40,5 @@ branchTarget counter offset = around (pos counter +ℤ signed offset)
 
 -- taken: one cycle more, and another one where the target lies in another page than the advanced counter
 unfoldable pub branched : Bool → Target → Registers → Effect
-branched true t r = record { registers = setPC (t .address) r; extra = 1 + bit (t .crossed) }
-branched false t r = record { registers = r; extra = 0 }
+branched true t r = leaves (setPC (t .address) r) (1 + bit (t .crossed))
+branched false t r = leaves r 0

@@ -17,10 +17,12 @@ use Rattle.instruction.specs.Modes.{operandBytes}
 use Rattle.manual.specs.declared.ArithmeticOutput.{ArithmeticOutput}
 use Rattle.manual.specs.declared.Effect.{Effect}
 use Rattle.manual.specs.Micro.{Micro, done, _>>=_, _>>_, byte, store}
-use Rattle.manual.specs.Words.{address}
+use Rattle.manual.specs.Words.{address, joined}
+use Rattle.manual.specs.Outcomes.{leavesAt, leaves}
 use Rattle.registers.specs.State.{setA, setPC, setV, setC, setI, setStatus, flags}
+use Rattle.manual.specs.Flags.{shown}
 use Rattle.manual.specs.Arithmetic.{binarySum, binaryDifference}
-use Rattle.manual.specs.Decimal.{decimalSum, decimalDifference}
+use Rattle.manual.specs.Decimal.{decimalSum, decimalDifference, decimalShown}
 use Rattle.manual.specs.Branching.{compared, tested, holds, branched}
 use Rattle.manual.specs.Addressing.{operand, word, target}
 use Rattle.manual.specs.IndexRegisters.{loadA, loadX, loadY, internal}
@@ -40,13 +42,16 @@ difference m r =
     (decimalDifference (r .accumulator) m (r .status .carry))
     (binaryDifference (r .accumulator) m (r .status .carry))
 
-unfoldable pub arithmetic : ArithmeticOutput → Registers → Registers
-arithmetic o r = loadA (o .result) (flags (λ p. setV (o .overflow) (setC (o .carry) p)) r)
+-- what they leave; in decimal mode N and Z follow the Rust
+unfoldable pub withOutput : ArithmeticOutput → Registers → Registers
+withOutput o r =
+    let after = setA (o .result) (flags (λ p. setV (o .overflow) (setC (o .carry) p)) r) in
+    cond (r .status .decimal) (decimalShown (o .result) after) (shown (o .result) after)
 
 -- what is done with a byte that was read (chapters 2, 4 and 7)
 unfoldable pub taken : ReadOperation → ℕ → Registers → Registers
-taken ADC m r = arithmetic (sum m r) r
-taken SBC m r = arithmetic (difference m r) r
+taken ADC m r = withOutput (sum m r) r
+taken SBC m r = withOutput (difference m r) r
 taken AND m r = loadA (bitAnd (r .accumulator) m) r
 taken ORA m r = loadA (bitOr (r .accumulator) m) r
 taken EOR m r = loadA (bitXor (r .accumulator) m) r
@@ -65,59 +70,57 @@ stored STX r = r .x
 stored STY r = r .y
 
 -- the counter past the instruction
-abbrev pub past : AddressingMode → Registers → Registers
-past mode r = setPC (operand r (1 + operandBytes mode)) r
-
-abbrev pub leaves : Registers → ℕ → Effect
-leaves r extra = record { registers = r; extra = extra }
+abbrev pub advanced : AddressingMode → Registers → Registers
+advanced mode r = setPC (operand r (1 + operandBytes mode)) r
 
 -- chapter 10: with no operand byte it is the accumulator that is modified
 unfoldable pub modify : ModifyOperation → AddressingMode → Registers → Micro Effect
 modify k mode r =
     cond (eqb (operandBytes mode) 0)
-    (done (leaves (setA (modified k (r .accumulator) (r .status .carry)) (modifiedFlags k (r .accumulator) (past mode r))) 0))
+    (done (leaves (setA (modified k (r .accumulator) (r .status .carry)) (modifiedFlags k (r .accumulator) (advanced mode r))) 0))
     (do
       t ← target mode r
       b ← byte (t .address)
       store (t .address) (modified k b (r .status .carry))
-      done (leaves (modifiedFlags k b (past mode r)) 0))
+      done (leavesAt (t .first) (modifiedFlags k b (advanced mode r)) 0))
 
 unfoldable pub perform : Instruction → AddressingMode → Registers → Micro Effect
 perform (Read k) mode r = do
   t ← target mode r
   b ← byte (t .address)
-  done (leaves (taken k b (past mode r)) (bit (t .crossed)))
+  done (leavesAt (t .first) (taken k b (advanced mode r)) (bit (t .crossed)))
 perform (Store k) mode r = do
   t ← target mode r
   store (t .address) (stored k r)
-  done (leaves (past mode r) 0)
+  done (leavesAt (t .first) (advanced mode r) 0)
 perform (Modify k) mode r = modify k mode r
 perform (Branch k) mode r = do
   t ← target mode r
-  done (branched (holds k (r .status)) t (past mode r))
-perform (Internal k) mode r = done (leaves (internal k (past mode r)) 0)
+  done (branched (holds k (r .status)) t (advanced mode r))
+perform (Internal k) mode r = done (leaves (internal k (advanced mode r)) 0)
 perform JMP mode r = do
   t ← target mode r
-  done (leaves (setPC (t .address) r) 0)
+  done (leavesAt (t .first) (setPC (t .address) r) 0)
 perform JSR mode r = do
-  goal ← word (operand r 1) (operand r 2)
+  l ← byte (operand r 1)
   r₁ ← pushAddress (operand r 2) r
-  done (leaves (setPC goal r₁) 0)
+  h ← byte (operand r 2)
+  done (leavesAt (joined h l) (setPC (joined h l) r₁) 0)
 perform RTS mode r = do
   (back, r₁) ← pullAddress r
   done (leaves (setPC (address (back + 1)) r₁) 0)
 perform PHA mode r = do
   r₁ ← push (r .accumulator) r
-  done (leaves (past mode r₁) 0)
+  done (leaves (advanced mode r₁) 0)
 perform PHP mode r = do
   r₁ ← push (pushedByte (r .status)) r
-  done (leaves (past mode r₁) 0)
+  done (leaves (advanced mode r₁) 0)
 perform PLA mode r = do
   (b, r₁) ← pull r
-  done (leaves (loadA b (past mode r₁)) 0)
+  done (leaves (loadA b (advanced mode r₁)) 0)
 perform PLP mode r = do
   (b, r₁) ← pull r
-  done (leaves (setStatus (pulledStatus b) (past mode r₁)) 0)
+  done (leaves (setStatus (pulledStatus b) (advanced mode r₁)) 0)
 perform BRK mode r = do
   r₁ ← pushAddress (operand r 2) r
   r₂ ← push (pushedByte (r .status)) r₁

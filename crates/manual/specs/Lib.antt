@@ -1,5 +1,6 @@
 pub mod Micro
 pub mod Words
+pub mod Outcomes
 pub mod Arithmetic
 pub mod Decimal
 pub mod Flags

@@ -18,17 +18,33 @@ exec (done a) m = (a, m)
 exec (read p k) m = exec (k (getD m p 0)) m
 exec (write p b k) m = exec k (set m p b)
 
--- the addresses that it reads, in order
-unfoldable pub reads : {A : Type 0} → Micro A → List ℕ → List ℕ
-reads (done a) m = []
-reads (read p k) m = p ∷ reads (k (getD m p 0)) m
-reads (write p b k) m = reads k (set m p b)
+-- a look at the memory, or a store
+pub data Access : Type 0 where
+  readAt : ℕ → Access
+  storeAt : ℕ → Access
 
--- the addresses that it stores to, in order
-unfoldable pub stores : {A : Type 0} → Micro A → List ℕ → List ℕ
-stores (done a) m = []
-stores (read p k) m = stores (k (getD m p 0)) m
-stores (write p b k) m = p ∷ stores k (set m p b)
+-- what a program reads and stores to, in order
+unfoldable pub accesses : {A : Type 0} → Micro A → List ℕ → List Access
+accesses (done a) m = []
+accesses (read p k) m = readAt p ∷ accesses (k (getD m p 0)) m
+accesses (write p b k) m = storeAt p ∷ accesses k (set m p b)
+
+abbrev pub readsOf : List Access → List ℕ
+readsOf [] = []
+readsOf (readAt p ∷ l) = p ∷ readsOf l
+readsOf (storeAt p ∷ l) = readsOf l
+
+abbrev pub storesOf : List Access → List ℕ
+storesOf [] = []
+storesOf (readAt p ∷ l) = storesOf l
+storesOf (storeAt p ∷ l) = p ∷ storesOf l
+
+-- the addresses that it reads, and those that it stores to
+abbrev pub reads : {A : Type 0} → Micro A → List ℕ → List ℕ
+reads p m = readsOf (accesses p m)
+
+abbrev pub stores : {A : Type 0} → Micro A → List ℕ → List ℕ
+stores p m = storesOf (accesses p m)
 
 -- one program after another: a `do` block is written with these
 abbrev pub _>>=_ : {A B : Type 0} → Micro A → (A → Micro B) → Micro B

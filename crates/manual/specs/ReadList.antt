@@ -1,4 +1,4 @@
--- Document 01's 'Bytes a step reads', as it is stated there, apart from what the definition reads (it gives only the address that a mode leads to,
+-- The bytes a step reads, as docs/RULES.md states them, apart from what the definition reads (it gives only the address that a mode leads to,
 -- and the state between two steps): the opcode; operand bytes by mode; two pointer bytes
 -- for (zp,X), (zp),Y and JMP indirect; the target of a read and of a memory modification; pulled bytes; FFFE and FFFF for BRK. A store's
 -- target is not read. That the definition reads exactly these is a theorem (Theorems/Reads).
@@ -20,6 +20,7 @@ use Rattle.manual.specs.declared.Machine.{Machine}
 use Rattle.manual.specs.Micro.{exec}
 use Rattle.manual.specs.Words.{low, page, joined}
 use Rattle.manual.specs.Addressing.{operand, target}
+use Rattle.manual.specs.Outcomes.{isMade}
 use Rattle.manual.specs.Stepping.{fullMemory, highestCount, highestBound, stepFull}
 
 -- the modes told apart by number
@@ -114,7 +115,11 @@ abbrev pub listedRunFull : ℕ → Machine → List ℕ → List ℕ
 listedRunFull zero s m = []
 listedRunFull (suc n) s m =
     listedStepFull s m
-    ++ cond (eqb (exec (stepFull s) m .0 .answer) 0) (listedRunFull n (exec (stepFull s) m .0 .machine) (exec (stepFull s) m .1)) []
+    ++ cond (isMade (exec (stepFull s) m .0 .reason)) (listedRunFull n (exec (stepFull s) m .0 .machine) (exec (stepFull s) m .1)) []
 
 abbrev pub listedRun : ℕ → ℕ → Machine → List ℕ → List ℕ
 listedRun size bound s m = cond (eqb size fullMemory) (cond (leb bound highestBound) (listedRunFull bound s m) []) []
+
+-- a run of any number of steps, likewise
+abbrev pub listedLongRun : ℕ → ℕ → Machine → List ℕ → List ℕ
+listedLongRun size bound s m = cond (eqb size fullMemory) (listedRunFull bound s m) []

@@ -1,29 +1,19 @@
--- A step and a bounded run, with document 01's answers:
---   0  the step, or every step of the run, was made
---   1  the lent memory is not 65,536 bytes long
---   2  the cycle count leaves no room for another step
---   3  the byte at the counter is no documented opcode
---   4  the run's bound is above 1,000,000
+-- A step and a bounded run, with their refusals.
 use Prim.Native.Nat.{ℕ, zero, suc, _+_}
 use mathlib.Core.Bool.{cond}
 use lib.Dec.{eqb, leb, ltb}
+use Rattle.instruction.specs.declared.Entry.{Entry}
 use Rattle.instruction.specs.declared.Decoded.{Decoded}
 use Rattle.instruction.specs.declared.Decoded.the-variants.{Defined, Undefined}
 use Rattle.instruction.specs.Opcodes.{decoded}
 use Rattle.manual.specs.declared.Machine.{Machine}
+use Rattle.manual.specs.declared.Effect.{Effect}
+use Rattle.manual.specs.declared.Stepped.{Stepped}
+use Rattle.manual.specs.declared.Ended.{Ended}
+use Rattle.manual.specs.declared.Reason.the-variants.{Made, MemoryNotFull, NoCycleRoom, NotAnOpcode, BoundTooHigh}
 use Rattle.manual.specs.Micro.{Micro, done, _>>=_, byte}
+use Rattle.manual.specs.Outcomes.{machineOf, isMade, stepped, refused, ended}
 use Rattle.manual.specs.Instructions.{perform}
-
--- what a step answers, and the machine that it leaves
-pub record Stepped : Type 0 where
-  pub answer : ℕ
-  pub machine : Machine
-
--- what a run answers, the steps that it made, and the machine that it leaves
-pub record Finished : Type 0 where
-  pub answer : ℕ
-  pub steps : ℕ
-  pub machine : Machine
 
 abbrev pub fullMemory : ℕ
 fullMemory = 65536
@@ -35,40 +25,42 @@ highestCount = 18446744073709551608
 abbrev pub highestBound : ℕ
 highestBound = 1000000
 
-abbrev pub stepped : ℕ → Machine → Stepped
-stepped answer s = record { answer = answer; machine = s }
-
-abbrev pub finished : ℕ → ℕ → Machine → Finished
-finished answer steps s = record { answer = answer; steps = steps; machine = s }
+-- the machine after what an entry's instruction leaves: the entry's cycles and the extra ones are added
+abbrev pub after : Machine → Entry → Effect → Machine
+after s entry effect = machineOf (effect .registers) (s .cycles + entry .cycles + effect .extra)
 
 -- what an opcode's entry does
 unfoldable pub act : Decoded → Machine → Micro Stepped
 act (Defined entry) s = do
   effect ← perform (entry .instruction) (entry .mode) (s .registers)
-  done (stepped 0 (record { registers = effect .registers; cycles = s .cycles + entry .cycles + effect .extra }))
-act Undefined s = done (stepped 3 s)
+  done (stepped Made (effect .first) (after s entry effect))
+act Undefined s = done (refused NotAnOpcode s)
 
 -- a step on a full memory
 unfoldable pub stepFull : Machine → Micro Stepped
 stepFull s =
-    cond (ltb highestCount (s .cycles)) (done (stepped 2 s)) (do
+    cond (ltb highestCount (s .cycles)) (done (refused NoCycleRoom s)) (do
       opcode ← byte (s .registers .counter)
       act (decoded opcode) s)
 
 -- a step on a memory of any length
 unfoldable pub step : ℕ → Machine → Micro Stepped
-step size s = cond (eqb size fullMemory) (stepFull s) (done (stepped 1 s))
+step size s = cond (eqb size fullMemory) (stepFull s) (done (refused MemoryNotFull s))
 
 -- n more steps on a full memory, after k
-unfoldable pub runFull : ℕ → ℕ → Machine → Micro Finished
-runFull zero k s = done (finished 0 k s)
+unfoldable pub runFull : ℕ → ℕ → Machine → Micro Ended
+runFull zero k s = done (ended Made k s)
 runFull (suc n) k s = do
   q ← stepFull s
-  cond (eqb (q .answer) 0) (runFull n (k + 1) (q .machine)) (done (finished (q .answer) k (q .machine)))
+  cond (isMade (q .reason)) (runFull n (k + 1) (q .machine)) (done (ended (q .reason) k (q .machine)))
 
 -- a run of at most `bound` steps on a memory of any length
-unfoldable pub run : ℕ → ℕ → Machine → Micro Finished
+unfoldable pub run : ℕ → ℕ → Machine → Micro Ended
 run size bound s =
     cond (eqb size fullMemory)
-    (cond (leb bound highestBound) (runFull bound 0 s) (done (finished 4 0 s)))
-    (done (finished 1 0 s))
+    (cond (leb bound highestBound) (runFull bound 0 s) (done (ended BoundTooHigh 0 s)))
+    (done (ended MemoryNotFull 0 s))
+
+-- a run of any number of steps
+unfoldable pub longRun : ℕ → ℕ → Machine → Micro Ended
+longRun size bound s = cond (eqb size fullMemory) (runFull bound 0 s) (done (ended MemoryNotFull 0 s))

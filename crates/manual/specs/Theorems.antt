@@ -1,5 +1,6 @@
 pub mod Programs
 pub mod OneResult
+pub mod Accesses
 pub mod Reads
 pub mod FewReads
 pub mod Stores
@@ -7,13 +8,17 @@ pub mod Sealed
 pub mod StepLaws
 pub mod Answers
 pub mod RunAnswers
+pub mod Lunch
 pub mod Edges
 pub mod Within
 pub mod RegistersInRange
 pub mod Ranges
 pub mod IntegerLemmas
 pub mod BinaryArithmetic
+pub mod Complement
 pub mod DecimalDigits
 pub mod Examples
 pub mod InstructionLaws
 pub mod Extra
+pub mod FirstAddress
+pub mod Call

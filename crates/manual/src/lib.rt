@@ -1,5 +1,14 @@
-// The values that the definition in specs/ and the code above it share. The definition itself is no code.
+// The values that the definition in specs/ and the code above it share, and how they are made. The definition itself is no code.
+ghost use mathlib.Core.Path.{_≡_};
+ghost use Rattle.manual.specs.Outcomes.{leavesAt, leaves, machineOf, number, isMade, stepped, ended};
 use registers::Registers;
+
+// The length of a whole memory, the highest cycle count from which a step is made, and the highest bound of a run.
+pub const FULL_MEMORY: usize = 65536;
+
+pub const HIGHEST_COUNT: u64 = 18446744073709551608;
+
+pub const HIGHEST_BOUND: u64 = 1000000;
 
 // What a step changes besides memory: the registers and the cycle count.
 pub struct Machine {
@@ -7,11 +16,12 @@ pub struct Machine {
     pub cycles: u64,
 }
 
-// Where an addressing mode leads, and whether that is another page than the one it was counted from: the page of an
-// indexed base, or of the counter past a branch.
+// Where an addressing mode leads; whether that is another page than the one it was counted from, the page of an indexed
+// base, or of the counter past a branch; and the address that is put out first, before a carry reaches the high byte.
 pub struct Target {
     pub address: u16,
     pub crossed: bool,
+    pub first: u16,
 }
 
 // What ADC and SBC give, as in lib.rs; N and Z are those of the result.
@@ -21,14 +31,122 @@ pub struct ArithmeticOutput {
     pub overflow: bool,
 }
 
-// What an instruction leaves: the registers, and the cycles beyond its base.
-pub struct Effect {
-    pub registers: Registers,
-    pub extra: u8,
-}
-
 // One decimal digit of a sum or difference, and whether it carries into the next one or borrows from it.
 pub struct Digit {
     pub value: u8,
     pub over: bool,
+}
+
+// What an instruction leaves: the registers, the cycles beyond its base, and the address that it put out first.
+pub struct Effect {
+    pub registers: Registers,
+    pub extra: u8,
+    pub first: u16,
+}
+
+// Why a step or a run ended: every step that was asked for was made, or the refusal that stopped it.
+pub enum Reason {
+    Made,
+    MemoryNotFull,
+    NoCycleRoom,
+    NotAnOpcode,
+    BoundTooHigh,
+}
+
+// What a step answers, the address that it put out first, and the machine that it leaves: in a refusal 0000, and the one
+// that was given.
+pub struct Stepped {
+    pub reason: Reason,
+    pub first: u16,
+    pub machine: Machine,
+}
+
+// What a run answers, the steps that it made, and the machine after them.
+pub struct Ended {
+    pub reason: Reason,
+    pub steps: u64,
+    pub machine: Machine,
+}
+
+// What an instruction leaves that put out an address.
+pub fn leaves_at(first: u16, registers: Registers, extra: u8) -> Effect
+    ensures { λ r. ⌜ r ≡ leavesAt first registers extra ⌝ }
+{
+    Effect {
+        registers: registers,
+        extra: extra,
+        first: first,
+    }
+}
+
+// What an instruction leaves that has no address.
+pub fn leaves(registers: Registers, extra: u8) -> Effect
+    ensures { λ r. ⌜ r ≡ leaves registers extra ⌝ }
+{
+    leaves_at(0, registers, extra)
+}
+
+impl Machine {
+    // The machine from its parts.
+    pub fn new(registers: Registers, cycles: u64) -> Machine
+        ensures { λ r. ⌜ r ≡ machineOf registers cycles ⌝ }
+    {
+        Machine {
+            registers: registers,
+            cycles: cycles,
+        }
+    }
+}
+
+impl Stepped {
+    // A step's answer from its parts.
+    pub fn new(reason: Reason, first: u16, machine: Machine) -> Stepped
+        ensures { λ r. ⌜ r ≡ stepped reason first machine ⌝ }
+    {
+        Stepped {
+            reason: reason,
+            first: first,
+            machine: machine,
+        }
+    }
+}
+
+impl Ended {
+    // A run's answer from its parts.
+    pub fn new(reason: Reason, steps: u64, machine: Machine) -> Ended
+        ensures { λ r. ⌜ r ≡ ended reason steps machine ⌝ }
+    {
+        Ended {
+            reason: reason,
+            steps: steps,
+            machine: machine,
+        }
+    }
+}
+
+impl Reason {
+    // The answer number.
+    pub fn number(self) -> u8
+        ensures { λ r. ⌜ r ≡ number self ⌝ }
+    {
+        match self {
+            Reason::Made => 0,
+            Reason::MemoryNotFull => 1,
+            Reason::NoCycleRoom => 2,
+            Reason::NotAnOpcode => 3,
+            Reason::BoundTooHigh => 4,
+        }
+    }
+    // Whether every step that was asked for was made.
+    pub fn is_made(self) -> bool
+        ensures { λ r. ⌜ r ≡ isMade self ⌝ }
+    {
+        match self {
+            Reason::Made => true,
+            Reason::MemoryNotFull => false,
+            Reason::NoCycleRoom => false,
+            Reason::NotAnOpcode => false,
+            Reason::BoundTooHigh => false,
+        }
+    }
 }

@@ -1,65 +1,81 @@
--- The core on numbers: the registers as one number, and a step and a run on it.
-use Prim.Native.Nat.{ℕ, _+_, _*_, _/_, _%_, _^_}
-use mathlib.Core.Bool.{cond}
-use lib.Dec.{eqb}
-use Rattle.registers.specs.declared.Registers.{Registers}
-use Rattle.registers.specs.StatusByte.{pushedByte, pulledStatus}
+-- The core on numbers: a step and a run on the registers as one number.
+use Prim.Native.Nat.{ℕ}
+use mathlib.Core.Bool.{Bool, cond}
+use lib.Dec.{ltb}
+use Rattle.packing.specs.Packed.{packed, unpacked}
 use Rattle.manual.specs.declared.Machine.{Machine}
+use Rattle.manual.specs.declared.Stepped.{Stepped}
+use Rattle.manual.specs.declared.Ended.{Ended}
 use Rattle.manual.specs.Micro.{Micro, done, _>>=_}
-use Rattle.manual.specs.Stepping.{Stepped, Finished, step, run}
+use Rattle.manual.specs.Outcomes.{machineOf, number, isMade}
+use Rattle.manual.specs.Stepping.{step, run, longRun}
+use Rattle.cpu.specs.declared.Walked.{Walked}
+use Rattle.cpu.specs.Walking.{walking}
 
--- A, X, Y, S and the status as PHP pushes it, a byte each from the lowest on, then the counter
-unfoldable pub packed : Registers → ℕ
-packed r =
-    r .accumulator
-    + r .x * 2 ^ 8
-    + r .y * 2 ^ 16
-    + r .stack .0 * 2 ^ 24
-    + pushedByte (r .status) * 2 ^ 32
-    + r .counter * 2 ^ 40
+abbrev pub machineFrom : ℕ → ℕ → Machine
+machineFrom registers cycles = machineOf (unpacked registers) cycles
 
-abbrev pub registersOf : ℕ → ℕ → ℕ → ℕ → ℕ → ℕ → Registers
-registersOf a x y s p counter = record { accumulator = a; x = x; y = y; stack = record { 0 = s }; counter = counter; status = pulledStatus p }
+-- the two numbers are the machine's where a step was made, and otherwise as they were given
+abbrev pub registersAfter : Bool → Machine → ℕ → ℕ
+registersAfter made s registers = cond made (packed (s .registers)) registers
 
-unfoldable pub unpacked : ℕ → Registers
-unpacked n =
-    registersOf (n % 256) (n / 2 ^ 8 % 256) (n / 2 ^ 16 % 256) (n / 2 ^ 24 % 256) (n / 2 ^ 32 % 256) (n / 2 ^ 40 % 65536)
+abbrev pub cyclesAfter : Bool → Machine → ℕ → ℕ
+cyclesAfter made s cycles = cond made (s .cycles) cycles
 
-abbrev pub machineOf : ℕ → ℕ → Machine
-machineOf registers cycles = record { registers = unpacked registers; cycles = cycles }
+-- what comes back of a step: the answer, the address that it put out first, and the two numbers after it
+pub record StepNumbers : Type 0 where
+  pub answer : ℕ
+  pub first : ℕ
+  pub registers : ℕ
+  pub cycles : ℕ
 
--- what comes back: the answer, the steps made, and the two numbers after them
-pub record Numbers : Type 0 where
+abbrev pub stepNumbers : ℕ → ℕ → Stepped → StepNumbers
+stepNumbers registers cycles q = record {
+  answer = number (q .reason);
+  first = q .first;
+  registers = registersAfter (isMade (q .reason)) (q .machine) registers;
+  cycles = cyclesAfter (isMade (q .reason)) (q .machine) cycles;
+}
+
+-- and of a run, with the steps that it made
+pub record RunNumbers : Type 0 where
   pub answer : ℕ
   pub steps : ℕ
   pub registers : ℕ
   pub cycles : ℕ
 
--- where no step was made, the two numbers stay as they were given
-abbrev pub numbers : ℕ → ℕ → ℕ → ℕ → Machine → Numbers
-numbers registers cycles answer steps s = record {
-  answer = answer;
-  steps = steps;
-  registers = cond (eqb steps 0) registers (packed (s .registers));
-  cycles = cond (eqb steps 0) cycles (s .cycles);
+abbrev pub runNumbers : ℕ → ℕ → Ended → RunNumbers
+runNumbers registers cycles q = record {
+  answer = number (q .reason);
+  steps = q .steps;
+  registers = registersAfter (ltb 0 (q .steps)) (q .machine) registers;
+  cycles = cyclesAfter (ltb 0 (q .steps)) (q .machine) cycles;
 }
 
--- a step that is answered 0 is one step, any other is none
-abbrev pub madeBy : ℕ → ℕ
-madeBy answer = cond (eqb answer 0) 1 0
-
-abbrev pub stepNumbers : ℕ → ℕ → Stepped → Numbers
-stepNumbers registers cycles q = numbers registers cycles (q .answer) (madeBy (q .answer)) (q .machine)
-
-abbrev pub runNumbers : ℕ → ℕ → Finished → Numbers
-runNumbers registers cycles q = numbers registers cycles (q .answer) (q .steps) (q .machine)
-
-unfoldable pub stepOnNumbers : ℕ → ℕ → ℕ → Micro Numbers
+unfoldable pub stepOnNumbers : ℕ → ℕ → ℕ → Micro StepNumbers
 stepOnNumbers size registers cycles = do
-  q ← step size (machineOf registers cycles)
+  q ← step size (machineFrom registers cycles)
   done (stepNumbers registers cycles q)
 
-unfoldable pub runOnNumbers : ℕ → ℕ → ℕ → ℕ → Micro Numbers
+unfoldable pub runOnNumbers : ℕ → ℕ → ℕ → ℕ → Micro RunNumbers
 runOnNumbers size bound registers cycles = do
-  q ← run size bound (machineOf registers cycles)
+  q ← run size bound (machineFrom registers cycles)
   done (runNumbers registers cycles q)
+
+unfoldable pub longRunOnNumbers : ℕ → ℕ → ℕ → ℕ → Micro RunNumbers
+longRunOnNumbers size bound registers cycles = do
+  q ← longRun size bound (machineFrom registers cycles)
+  done (runNumbers registers cycles q)
+
+-- what comes back of the loop, for either: a run's numbers, and the address that the last step put out first
+pub record WalkNumbers : Type 0 where
+  pub first : ℕ
+  pub ended : RunNumbers
+
+abbrev pub walkNumbers : ℕ → ℕ → Walked → WalkNumbers
+walkNumbers registers cycles w = record { first = w .first; ended = runNumbers registers cycles (w .ended) }
+
+unfoldable pub walkOnNumbers : ℕ → ℕ → ℕ → Micro WalkNumbers
+walkOnNumbers bound registers cycles = do
+  w ← walking bound 0 0 (machineFrom registers cycles)
+  done (walkNumbers registers cycles w)

@@ -1,45 +1,20 @@
 // The core on numbers, for a host in C or Rust: see host/mos6502.h.
 ghost use mathlib.Core.Path.{_≡_};
 ghost use lib.ListN.{length};
+ghost use Rattle.registers.specs.State.{registersOf};
+ghost use Rattle.registers.specs.StatusByte.{pushedByte, pulledStatus};
+ghost use Rattle.packing.specs.Packed.{packed, unpacked};
 ghost use Rattle.manual.specs.Micro.{Gives};
-ghost use Rattle.cpu.specs.Answers.{endingResult};
-ghost use Rattle.mos6502.specs.Numbers.{packed, unpacked, registersOf, runNumbers, madeBy, stepOnNumbers, runOnNumbers};
-ghost use Rattle.registers.specs.StatusByte.{pushedByte};
-use cpu::Ending;
-use cpu::StepAnswer;
-use cpu::run;
-use cpu::single_step;
+ghost use Rattle.manual.specs.Stepping.{fullMemory};
+ghost use Rattle.mos6502.specs.Numbers.{machineFrom, registersAfter, cyclesAfter, stepOnNumbers, runOnNumbers, longRunOnNumbers, walkOnNumbers};
+use cpu::walk;
+use manual::FULL_MEMORY;
+use manual::HIGHEST_BOUND;
 use manual::Machine;
+use packing::pack;
+use packing::unpack;
 use registers::Registers;
-use registers::StackPointer;
 use registers::Status;
-
-// The registers as one number: A, X, Y, S and the status in a byte each from the lowest on, then the counter.
-fn pack(registers: Registers) -> u64
-    ensures { λ r. ⌜ r ≡ packed registers ⌝ }
-{
-    (registers.accumulator as u64)
-        + (registers.x as u64) * 0x100
-        + (registers.y as u64) * 0x1_0000
-        + (registers.stack.0 as u64) * 0x100_0000
-        + (registers.status.pushed() as u64) * 0x1_0000_0000
-        + (registers.counter as u64) * 0x100_0000_0000
-}
-
-fn unpack(number: u64) -> Registers
-    ensures { λ r. ⌜ r ≡ unpacked number ⌝ }
-{
-    let status = Status::pulled((number / 0x1_0000_0000 % 256) as u8);
-    let stack = StackPointer((number / 0x100_0000 % 256) as u8);
-    Registers {
-        accumulator: (number % 256) as u8,
-        x: (number / 0x100 % 256) as u8,
-        y: (number / 0x1_0000 % 256) as u8,
-        stack: stack,
-        counter: (number / 0x100_0000_0000 % 65536) as u16,
-        status: status,
-    }
-}
 
 // The number of some registers; bits 4 and 5 of the status do not matter.
 #[no_mangle]
@@ -51,20 +26,12 @@ pub extern "C" fn mos6502_registers(
     status: u8,
     counter: u16,
 ) -> u64
-    ensures { λ r. ⌜ r ≡ packed (registersOf accumulator x y stack status counter) ⌝ }
+    ensures { λ r. ⌜ r ≡ packed (registersOf accumulator x y stack counter (pulledStatus status)) ⌝ }
 {
-    let flags = Status::pulled(status);
-    let pointer = StackPointer(stack);
-    pack(Registers {
-        accumulator: accumulator,
-        x: x,
-        y: y,
-        stack: pointer,
-        counter: counter,
-        status: flags,
-    })
+    pack(Registers::new(accumulator, x, y, stack, counter, Status::pulled(status)))
 }
 
+// A of a number.
 #[no_mangle]
 pub extern "C" fn mos6502_accumulator(registers: u64) -> u8
     ensures { λ r. ⌜ r ≡ unpacked registers .accumulator ⌝ }
@@ -72,6 +39,7 @@ pub extern "C" fn mos6502_accumulator(registers: u64) -> u8
     unpack(registers).accumulator
 }
 
+// X of a number.
 #[no_mangle]
 pub extern "C" fn mos6502_x(registers: u64) -> u8
     ensures { λ r. ⌜ r ≡ unpacked registers .x ⌝ }
@@ -79,6 +47,7 @@ pub extern "C" fn mos6502_x(registers: u64) -> u8
     unpack(registers).x
 }
 
+// Y of a number.
 #[no_mangle]
 pub extern "C" fn mos6502_y(registers: u64) -> u8
     ensures { λ r. ⌜ r ≡ unpacked registers .y ⌝ }
@@ -86,6 +55,7 @@ pub extern "C" fn mos6502_y(registers: u64) -> u8
     unpack(registers).y
 }
 
+// S of a number.
 #[no_mangle]
 pub extern "C" fn mos6502_stack(registers: u64) -> u8
     ensures { λ r. ⌜ r ≡ unpacked registers .stack .0 ⌝ }
@@ -93,7 +63,7 @@ pub extern "C" fn mos6502_stack(registers: u64) -> u8
     unpack(registers).stack.0
 }
 
-// The status as PHP pushes it.
+// The status of a number, as PHP pushes it.
 #[no_mangle]
 pub extern "C" fn mos6502_status(registers: u64) -> u8
     ensures { λ r. ⌜ r ≡ pushedByte (unpacked registers .status) ⌝ }
@@ -101,6 +71,7 @@ pub extern "C" fn mos6502_status(registers: u64) -> u8
     unpack(registers).status.pushed()
 }
 
+// The counter of a number.
 #[no_mangle]
 pub extern "C" fn mos6502_counter(registers: u64) -> u16
     ensures { λ r. ⌜ r ≡ unpacked registers .counter ⌝ }
@@ -108,49 +79,76 @@ pub extern "C" fn mos6502_counter(registers: u64) -> u16
     unpack(registers).counter
 }
 
-// What a run gives back on numbers. Where it made no step, both stay as they were, to the bit.
-fn give_back(ending: Ending, registers: &mut u64, cycles: &mut u64, steps: &mut u64) -> u8
-    ensures { λ r.
-        ⌜ runNumbers (now (registers .entry)) (now (cycles .entry)) (endingResult ending)
-        ≡ record { answer = r; steps = now (steps .exit); registers = now (registers .exit); cycles = now (cycles .exit) } ⌝ }
+// The machine of a number and a cycle count.
+fn machine_from(registers: u64, cycles: u64) -> Machine
+    ensures { λ r. ⌜ r ≡ machineFrom registers cycles ⌝ }
 {
-    let count = ending.progress.steps;
-    *steps = count;
-    if count == 0 {
-        return ending.number;
-    }
-    let machine = ending.progress.machine;
-    let after = machine.registers;
-    *registers = pack(after);
-    *cycles = machine.cycles;
-    ending.number
+    Machine::new(unpack(registers), cycles)
 }
 
-// A step. A refusal leaves both numbers and the memory as they were.
+// The machine as the two numbers, where a step was made.
+fn hand_back(made: bool, machine: Machine, registers: &mut u64, cycles: &mut u64)
+    ensures { λ r. ⌜ now (registers .exit) ≡ registersAfter made machine (now (registers .entry)) ⌝ }
+    ensures { λ r. ⌜ now (cycles .exit) ≡ cyclesAfter made machine (now (cycles .entry)) ⌝ }
+{
+    if made {
+        let after = machine.registers;
+        *registers = pack(after);
+        *cycles = machine.cycles;
+    }
+}
+
+// At most `bound` steps on numbers. Both functions below call this one, and it alone calls the loop: so the compiler makes
+// one function of the loop and of what stands around it, and no record goes through memory.
+fn advance(
+    registers: &mut u64,
+    cycles: &mut u64,
+    steps: &mut u64,
+    first: &mut u16,
+    bound: u64,
+    memory: &mut [u8],
+) -> u8
+    requires { ⌜ length (now memory) ≡ fullMemory ⌝ }
+    ensures { λ r.
+        ⌜ Gives
+        (walkOnNumbers bound (now (registers .entry)) (now (cycles .entry)))
+        (now (memory .entry))
+        (record {
+          first = now (first .exit);
+          ended = record { answer = r; steps = now (steps .exit); registers = now (registers .exit); cycles = now (cycles .exit) };
+        })
+        (now (memory .exit)) ⌝ }
+{
+    let walked = walk(machine_from(*registers, *cycles), bound, memory);
+    *first = walked.first;
+    let ended = walked.ended;
+    let reason = ended.reason;
+    *steps = ended.steps;
+    hand_back(0 < ended.steps, ended.machine, registers, cycles);
+    reason.number()
+}
+
+// A step. A refusal leaves both numbers and the memory as they were, and gives 0000 for the address put out first.
 #[no_mangle]
-pub extern "C" fn mos6502_step(registers: &mut u64, cycles: &mut u64, memory: &mut [u8]) -> u8
+pub extern "C" fn mos6502_step(
+    registers: &mut u64,
+    cycles: &mut u64,
+    first: &mut u16,
+    memory: &mut [u8],
+) -> u8
     ensures { λ r.
         ⌜ Gives
         (stepOnNumbers (length (now (memory .entry))) (now (registers .entry)) (now (cycles .entry)))
         (now (memory .entry))
-        (record { answer = r; steps = madeBy r; registers = now (registers .exit); cycles = now (cycles .exit) })
+        (record { answer = r; first = now (first .exit); registers = now (registers .exit); cycles = now (cycles .exit) })
         (now (memory .exit)) ⌝ }
 {
-    let machine = Machine {
-        registers: unpack(*registers),
-        cycles: *cycles,
-    };
-    match single_step(machine, memory) {
-        StepAnswer::Made(next) => {
-            let after = next.registers;
-            *registers = pack(after);
-            *cycles = next.cycles;
-            0
-        }
-        StepAnswer::MemoryNotFull(_) => 1,
-        StepAnswer::NoCycleRoom(_) => 2,
-        StepAnswer::NotAnOpcode(_) => 3,
+    if memory.len() != FULL_MEMORY {
+        *first = 0;
+        return 1;
     }
+    let mut steps: u64 = 0;
+    advance(registers, cycles, &mut steps, first, 1, memory)
 }
 
 // A run of at most `bound` steps. Where it makes none, both numbers stay as they were.
@@ -169,10 +167,38 @@ pub extern "C" fn mos6502_run(
         (record { answer = r; steps = now (steps .exit); registers = now (registers .exit); cycles = now (cycles .exit) })
         (now (memory .exit)) ⌝ }
 {
-    let machine = Machine {
-        registers: unpack(*registers),
-        cycles: *cycles,
-    };
-    let ending = run(machine, bound, memory).ending();
-    give_back(ending, registers, cycles, steps)
+    if memory.len() != FULL_MEMORY {
+        *steps = 0;
+        return 1;
+    }
+    if HIGHEST_BOUND < bound {
+        *steps = 0;
+        return 4;
+    }
+    let mut first: u16 = 0;
+    advance(registers, cycles, steps, &mut first, bound, memory)
+}
+
+// A run of any number of steps. Where it makes none, both numbers stay as they were.
+#[no_mangle]
+pub extern "C" fn mos6502_long_run(
+    registers: &mut u64,
+    cycles: &mut u64,
+    steps: &mut u64,
+    bound: u64,
+    memory: &mut [u8],
+) -> u8
+    ensures { λ r.
+        ⌜ Gives
+        (longRunOnNumbers (length (now (memory .entry))) bound (now (registers .entry)) (now (cycles .entry)))
+        (now (memory .entry))
+        (record { answer = r; steps = now (steps .exit); registers = now (registers .exit); cycles = now (cycles .exit) })
+        (now (memory .exit)) ⌝ }
+{
+    if memory.len() != FULL_MEMORY {
+        *steps = 0;
+        return 1;
+    }
+    let mut first: u16 = 0;
+    advance(registers, cycles, steps, &mut first, bound, memory)
 }

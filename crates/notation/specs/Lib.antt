@@ -1,4 +1,2 @@
-pub mod Names
 pub mod Operands
-pub mod NameTable
-pub mod Marks
+pub mod Patterns

@@ -6,7 +6,8 @@ use Rattle.instruction.specs.declared.AddressingMode.{AddressingMode}
 use Rattle.instruction.specs.declared.AddressingMode.the-variants.{Accumulator, Implied, Immediate, ZeroPage, ZeroPageX, ZeroPageY, Relative, Absolute, AbsoluteX, AbsoluteY, BuggyIndirect, IndexedIndirectX, IndirectIndexedY}
 use Rattle.manual.specs.Words.{address, joined}
 use Rattle.manual.specs.Branching.{branchTarget}
-use Rattle.text.specs.Numerals.{characters, hex2, hex4}
+use Rattle.laws.specs.Characters.{characters}
+use Rattle.text.specs.Numerals.{hex2, hex4}
 
 -- the byte after the opcode, the word there, and where a branch leads with it
 abbrev pub byteAfter : List ℕ → ℕ → ℕ
@@ -18,17 +19,21 @@ wordAfter m at = joined (getD m (address (at + 2)) 0) (byteAfter m at)
 abbrev pub leadsTo : List ℕ → ℕ → ℕ
 leadsTo m at = branchTarget (address (at + 2)) (byteAfter m at)
 
+-- the operand of a mode, by how these three are written
+unfoldable pub written : AddressingMode → List ℕ → List ℕ → List ℕ → List ℕ
+written Accumulator byte word target = characters " A"
+written Implied byte word target = []
+written Immediate byte word target = characters " #$" ++ byte
+written ZeroPage byte word target = characters " $" ++ byte
+written ZeroPageX byte word target = characters " $" ++ byte ++ characters ",X"
+written ZeroPageY byte word target = characters " $" ++ byte ++ characters ",Y"
+written Relative byte word target = characters " $" ++ target
+written Absolute byte word target = characters " $" ++ word
+written AbsoluteX byte word target = characters " $" ++ word ++ characters ",X"
+written AbsoluteY byte word target = characters " $" ++ word ++ characters ",Y"
+written BuggyIndirect byte word target = characters " ($" ++ word ++ characters ")"
+written IndexedIndirectX byte word target = characters " ($" ++ byte ++ characters ",X)"
+written IndirectIndexedY byte word target = characters " ($" ++ byte ++ characters "),Y"
+
 unfoldable pub operand : AddressingMode → List ℕ → ℕ → List ℕ
-operand Accumulator m at = characters " A"
-operand Implied m at = []
-operand Immediate m at = characters " #$" ++ hex2 (byteAfter m at)
-operand ZeroPage m at = characters " $" ++ hex2 (byteAfter m at)
-operand ZeroPageX m at = characters " $" ++ hex2 (byteAfter m at) ++ characters ",X"
-operand ZeroPageY m at = characters " $" ++ hex2 (byteAfter m at) ++ characters ",Y"
-operand Relative m at = characters " $" ++ hex4 (leadsTo m at)
-operand Absolute m at = characters " $" ++ hex4 (wordAfter m at)
-operand AbsoluteX m at = characters " $" ++ hex4 (wordAfter m at) ++ characters ",X"
-operand AbsoluteY m at = characters " $" ++ hex4 (wordAfter m at) ++ characters ",Y"
-operand BuggyIndirect m at = characters " ($" ++ hex4 (wordAfter m at) ++ characters ")"
-operand IndexedIndirectX m at = characters " ($" ++ hex2 (byteAfter m at) ++ characters ",X)"
-operand IndirectIndexedY m at = characters " ($" ++ hex2 (byteAfter m at) ++ characters "),Y"
+operand mode m at = written mode (hex2 (byteAfter m at)) (hex4 (wordAfter m at)) (hex4 (leadsTo m at))

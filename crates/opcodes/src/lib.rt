@@ -1,13 +1,17 @@
 // The opcode table, after decode of instruction.rs: three arrays of numbers, a row for each high digit of the opcode.
 ghost use mathlib.Core.Path.{_≡_};
-ghost use Rattle.opcodes.specs.Arrays.{Listed, entryIn};
+ghost use Rattle.instruction.specs.Opcodes.{decoded};
+ghost use Rattle.opcodes.specs.Arrays.{IsTable};
 use instruction::Decoded;
 use instruction::Entry;
+use meaning::mode_at;
+use meaning::operation_at;
 
-mod number; // number.rt: the operations and the addressing modes by number
+pub mod meaning; // meaning.rt: what the numbers stand for
+mod names; // names.rt: the names of the operations
+pub mod number; // number.rt: the numbers of the operations and of the addressing modes
 
-use number::mode_at;
-use number::operation_at;
+pub use names::name_of;
 
 // The operation of each opcode, by number; 255 where the opcode is not defined.
 const OPERATIONS: [u8; 256] = *b"\
@@ -66,15 +70,16 @@ const CYCLES: [u8; 256] = *b"\
     \x02\x06\x00\x00\x03\x03\x05\x00\x02\x02\x02\x00\x04\x04\x06\x00\
     \x02\x05\x00\x00\x00\x04\x06\x00\x02\x04\x00\x00\x00\x04\x07\x00";
 
-pub struct OpcodeTable {
-    pub operations: [u8; 256],
-    pub modes: [u8; 256],
-    pub cycles: [u8; 256],
+// The three arrays.
+pub(crate) struct OpcodeTable {
+    pub(crate) operations: [u8; 256],
+    pub(crate) modes: [u8; 256],
+    pub(crate) cycles: [u8; 256],
 }
 
-// The table. The compiler lays it out anew at each call, so a caller with many opcodes keeps its arrays and lends them to decode.
-pub fn table() -> OpcodeTable
-    ensures { λ r. ⌜ Listed (r .operations) (r .modes) (r .cycles) ⌝ }
+// The table, with the proof that it is one. It is handed out by a function, so that this is computed once.
+pub(crate) fn table() -> OpcodeTable
+    ensures { λ r. ⌜ IsTable (r .operations) (r .modes) (r .cycles) ⌝ }
 {
     OpcodeTable {
         operations: OPERATIONS,
@@ -83,19 +88,23 @@ pub fn table() -> OpcodeTable
     }
 }
 
-// What three arrays of numbers say of an opcode. With the arrays of the table that is what the opcode means.
-pub fn decode(operations: &[u8; 256], modes: &[u8; 256], cycles: &[u8; 256], opcode: u8) -> Decoded
-    ensures { λ r. ⌜ r ≡ entryIn (now (operations .entry)) (now (modes .entry)) (now (cycles .entry)) opcode ⌝ }
+// What an opcode means.
+pub fn decode(opcode: u8) -> Decoded
+    ensures { λ r. ⌜ r ≡ decoded opcode ⌝ }
 {
+    let opcodes = table();
+    let operations = opcodes.operations;
+    let modes = opcodes.modes;
+    let cycles = opcodes.cycles;
     let at = opcode as usize;
     let number = operations[at];
-    if number == 255 {
-        Decoded::Undefined
-    } else {
+    if number < 56 {
         Decoded::Defined(Entry {
             instruction: operation_at(number),
             mode: mode_at(modes[at]),
             cycles: cycles[at],
         })
+    } else {
+        Decoded::Undefined
     }
 }

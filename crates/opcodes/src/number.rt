@@ -1,97 +1,139 @@
-// The operations and the addressing modes by number.
-ghost use mathlib.Core.Path.{_≡_};
-ghost use Rattle.opcodes.specs.Operations.{modeAt, operationAt};
-use instruction::AddressingMode;
-use instruction::BranchOperation;
-use instruction::Instruction;
-use instruction::InternalOperation;
-use instruction::ModifyOperation;
-use instruction::ReadOperation;
-use instruction::StoreOperation;
+// The numbers of the operations, in the order of their names, and of the addressing modes.
 
-// The operation of a number; NOP for a number that stands for none.
-pub(crate) fn operation_at(number: u8) -> Instruction
-    ensures { λ r. ⌜ r ≡ operationAt number ⌝ }
-{
-    match number {
-        0 => Instruction::Read(ReadOperation::ADC),
-        1 => Instruction::Read(ReadOperation::AND),
-        2 => Instruction::Modify(ModifyOperation::ASL),
-        3 => Instruction::Branch(BranchOperation::BCC),
-        4 => Instruction::Branch(BranchOperation::BCS),
-        5 => Instruction::Branch(BranchOperation::BEQ),
-        6 => Instruction::Read(ReadOperation::BIT),
-        7 => Instruction::Branch(BranchOperation::BMI),
-        8 => Instruction::Branch(BranchOperation::BNE),
-        9 => Instruction::Branch(BranchOperation::BPL),
-        10 => Instruction::BRK,
-        11 => Instruction::Branch(BranchOperation::BVC),
-        12 => Instruction::Branch(BranchOperation::BVS),
-        13 => Instruction::Internal(InternalOperation::CLC),
-        14 => Instruction::Internal(InternalOperation::CLD),
-        15 => Instruction::Internal(InternalOperation::CLI),
-        16 => Instruction::Internal(InternalOperation::CLV),
-        17 => Instruction::Read(ReadOperation::CMP),
-        18 => Instruction::Read(ReadOperation::CPX),
-        19 => Instruction::Read(ReadOperation::CPY),
-        20 => Instruction::Modify(ModifyOperation::DEC),
-        21 => Instruction::Internal(InternalOperation::DEX),
-        22 => Instruction::Internal(InternalOperation::DEY),
-        23 => Instruction::Read(ReadOperation::EOR),
-        24 => Instruction::Modify(ModifyOperation::INC),
-        25 => Instruction::Internal(InternalOperation::INX),
-        26 => Instruction::Internal(InternalOperation::INY),
-        27 => Instruction::JMP,
-        28 => Instruction::JSR,
-        29 => Instruction::Read(ReadOperation::LDA),
-        30 => Instruction::Read(ReadOperation::LDX),
-        31 => Instruction::Read(ReadOperation::LDY),
-        32 => Instruction::Modify(ModifyOperation::LSR),
-        33 => Instruction::Internal(InternalOperation::NOP),
-        34 => Instruction::Read(ReadOperation::ORA),
-        35 => Instruction::PHA,
-        36 => Instruction::PHP,
-        37 => Instruction::PLA,
-        38 => Instruction::PLP,
-        39 => Instruction::Modify(ModifyOperation::ROL),
-        40 => Instruction::Modify(ModifyOperation::ROR),
-        41 => Instruction::RTI,
-        42 => Instruction::RTS,
-        43 => Instruction::Read(ReadOperation::SBC),
-        44 => Instruction::Internal(InternalOperation::SEC),
-        45 => Instruction::Internal(InternalOperation::SED),
-        46 => Instruction::Internal(InternalOperation::SEI),
-        47 => Instruction::Store(StoreOperation::STA),
-        48 => Instruction::Store(StoreOperation::STX),
-        49 => Instruction::Store(StoreOperation::STY),
-        50 => Instruction::Internal(InternalOperation::TAX),
-        51 => Instruction::Internal(InternalOperation::TAY),
-        52 => Instruction::Internal(InternalOperation::TSX),
-        53 => Instruction::Internal(InternalOperation::TXA),
-        54 => Instruction::Internal(InternalOperation::TXS),
-        55 => Instruction::Internal(InternalOperation::TYA),
-        _ => Instruction::Internal(InternalOperation::NOP),
-    }
-}
+pub const ADC: u8 = 0;
 
-// The addressing mode of a number; implied for a number that stands for none.
-pub(crate) fn mode_at(number: u8) -> AddressingMode
-    ensures { λ r. ⌜ r ≡ modeAt number ⌝ }
-{
-    match number {
-        0 => AddressingMode::Accumulator,
-        1 => AddressingMode::Implied,
-        2 => AddressingMode::Immediate,
-        3 => AddressingMode::ZeroPage,
-        4 => AddressingMode::ZeroPageX,
-        5 => AddressingMode::ZeroPageY,
-        6 => AddressingMode::Relative,
-        7 => AddressingMode::Absolute,
-        8 => AddressingMode::AbsoluteX,
-        9 => AddressingMode::AbsoluteY,
-        10 => AddressingMode::BuggyIndirect,
-        11 => AddressingMode::IndexedIndirectX,
-        12 => AddressingMode::IndirectIndexedY,
-        _ => AddressingMode::Implied,
-    }
-}
+pub const AND: u8 = 1;
+
+pub const ASL: u8 = 2;
+
+pub const BCC: u8 = 3;
+
+pub const BCS: u8 = 4;
+
+pub const BEQ: u8 = 5;
+
+pub const BIT: u8 = 6;
+
+pub const BMI: u8 = 7;
+
+pub const BNE: u8 = 8;
+
+pub const BPL: u8 = 9;
+
+pub const BRK: u8 = 10;
+
+pub const BVC: u8 = 11;
+
+pub const BVS: u8 = 12;
+
+pub const CLC: u8 = 13;
+
+pub const CLD: u8 = 14;
+
+pub const CLI: u8 = 15;
+
+pub const CLV: u8 = 16;
+
+pub const CMP: u8 = 17;
+
+pub const CPX: u8 = 18;
+
+pub const CPY: u8 = 19;
+
+pub const DEC: u8 = 20;
+
+pub const DEX: u8 = 21;
+
+pub const DEY: u8 = 22;
+
+pub const EOR: u8 = 23;
+
+pub const INC: u8 = 24;
+
+pub const INX: u8 = 25;
+
+pub const INY: u8 = 26;
+
+pub const JMP: u8 = 27;
+
+pub const JSR: u8 = 28;
+
+pub const LDA: u8 = 29;
+
+pub const LDX: u8 = 30;
+
+pub const LDY: u8 = 31;
+
+pub const LSR: u8 = 32;
+
+pub const NOP: u8 = 33;
+
+pub const ORA: u8 = 34;
+
+pub const PHA: u8 = 35;
+
+pub const PHP: u8 = 36;
+
+pub const PLA: u8 = 37;
+
+pub const PLP: u8 = 38;
+
+pub const ROL: u8 = 39;
+
+pub const ROR: u8 = 40;
+
+pub const RTI: u8 = 41;
+
+pub const RTS: u8 = 42;
+
+pub const SBC: u8 = 43;
+
+pub const SEC: u8 = 44;
+
+pub const SED: u8 = 45;
+
+pub const SEI: u8 = 46;
+
+pub const STA: u8 = 47;
+
+pub const STX: u8 = 48;
+
+pub const STY: u8 = 49;
+
+pub const TAX: u8 = 50;
+
+pub const TAY: u8 = 51;
+
+pub const TSX: u8 = 52;
+
+pub const TXA: u8 = 53;
+
+pub const TXS: u8 = 54;
+
+pub const TYA: u8 = 55;
+
+pub const ACCUMULATOR: u8 = 0;
+
+pub const IMPLIED: u8 = 1;
+
+pub const IMMEDIATE: u8 = 2;
+
+pub const ZERO_PAGE: u8 = 3;
+
+pub const ZERO_PAGE_X: u8 = 4;
+
+pub const ZERO_PAGE_Y: u8 = 5;
+
+pub const RELATIVE: u8 = 6;
+
+pub const ABSOLUTE: u8 = 7;
+
+pub const ABSOLUTE_X: u8 = 8;
+
+pub const ABSOLUTE_Y: u8 = 9;
+
+pub const BUGGY_INDIRECT: u8 = 10;
+
+pub const INDEXED_INDIRECT_X: u8 = 11;
+
+pub const INDIRECT_INDEXED_Y: u8 = 12;

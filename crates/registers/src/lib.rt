@@ -1,7 +1,7 @@
 // The registers of the NMOS 6502, after registers.rs.
 ghost use mathlib.Core.Path.{_≡_};
 ghost use Prim.Native.Nat.{_≤_};
-ghost use Rattle.registers.specs.State.{setA, setX, setY, setS, setPC, setStatus, setNZ, setV, setD, setI, setC, up, down};
+ghost use Rattle.registers.specs.State.{statusOf, registersOf, setA, setX, setY, setS, setPC, setStatus, setNZ, setV, setD, setI, setC, up, down};
 ghost use Rattle.registers.specs.StatusByte.{bit, pushedByte, pulledStatus};
 
 // The processor status: the six flags N V D I Z C.
@@ -35,69 +35,81 @@ pub fn flag(set: bool) -> u8
 }
 
 impl Status {
-    pub fn with_result(self, negative: bool, zero: bool) -> Status
-        ensures { λ r. ⌜ r ≡ setNZ negative zero self ⌝ }
+    // The status from its flags, in the order of their bits.
+    pub fn new(
+        negative: bool,
+        overflow: bool,
+        decimal: bool,
+        disable: bool,
+        zero: bool,
+        carry: bool,
+    ) -> Status
+        ensures { λ r. ⌜ r ≡ statusOf negative overflow decimal disable zero carry ⌝ }
     {
         Status {
             negative: negative,
-            overflow: self.overflow,
-            decimal: self.decimal,
-            disable: self.disable,
+            overflow: overflow,
+            decimal: decimal,
+            disable: disable,
             zero: zero,
-            carry: self.carry,
+            carry: carry,
         }
     }
 
+    // The same status. Overwriting a status that was made flag by flag has the compiler keep each flag by itself, where
+    // it would pack a plain copy into one number and take it apart at every use.
+    fn kept_apart(self) -> Status
+        ensures { λ r. ⌜ r ≡ self ⌝ }
+    {
+        let mut after = Status::new(false, false, false, false, false, false);
+        after = self;
+        after
+    }
+
+    // N and Z replaced.
+    pub fn with_result(self, negative: bool, zero: bool) -> Status
+        ensures { λ r. ⌜ r ≡ setNZ negative zero self ⌝ }
+    {
+        let mut after = self.kept_apart();
+        after.negative = negative;
+        after.zero = zero;
+        after
+    }
+
+    // V replaced.
     pub fn with_overflow(self, overflow: bool) -> Status
         ensures { λ r. ⌜ r ≡ setV overflow self ⌝ }
     {
-        Status {
-            negative: self.negative,
-            overflow: overflow,
-            decimal: self.decimal,
-            disable: self.disable,
-            zero: self.zero,
-            carry: self.carry,
-        }
+        let mut after = self.kept_apart();
+        after.overflow = overflow;
+        after
     }
 
+    // D replaced.
     pub fn with_decimal(self, decimal: bool) -> Status
         ensures { λ r. ⌜ r ≡ setD decimal self ⌝ }
     {
-        Status {
-            negative: self.negative,
-            overflow: self.overflow,
-            decimal: decimal,
-            disable: self.disable,
-            zero: self.zero,
-            carry: self.carry,
-        }
+        let mut after = self.kept_apart();
+        after.decimal = decimal;
+        after
     }
 
+    // I replaced.
     pub fn with_disable(self, disable: bool) -> Status
         ensures { λ r. ⌜ r ≡ setI disable self ⌝ }
     {
-        Status {
-            negative: self.negative,
-            overflow: self.overflow,
-            decimal: self.decimal,
-            disable: disable,
-            zero: self.zero,
-            carry: self.carry,
-        }
+        let mut after = self.kept_apart();
+        after.disable = disable;
+        after
     }
 
+    // C replaced.
     pub fn with_carry(self, carry: bool) -> Status
         ensures { λ r. ⌜ r ≡ setC carry self ⌝ }
     {
-        Status {
-            negative: self.negative,
-            overflow: self.overflow,
-            decimal: self.decimal,
-            disable: self.disable,
-            zero: self.zero,
-            carry: carry,
-        }
+        let mut after = self.kept_apart();
+        after.carry = carry;
+        after
     }
 
     // The byte that PHP and BRK push.
@@ -117,24 +129,26 @@ impl Status {
     pub fn pulled(byte: u8) -> Status
         ensures { λ r. ⌜ r ≡ pulledStatus byte ⌝ }
     {
-        Status {
-            negative: byte / 128 % 2 == 1,
-            overflow: byte / 64 % 2 == 1,
-            decimal: byte / 8 % 2 == 1,
-            disable: byte / 4 % 2 == 1,
-            zero: byte / 2 % 2 == 1,
-            carry: byte % 2 == 1,
-        }
+        Status::new(
+            byte / 128 % 2 == 1,
+            byte / 64 % 2 == 1,
+            byte / 8 % 2 == 1,
+            byte / 4 % 2 == 1,
+            byte / 2 % 2 == 1,
+            byte % 2 == 1,
+        )
     }
 }
 
 impl StackPointer {
+    // One more, modulo 256: before a pull.
     pub fn increment(self) -> StackPointer
         ensures { λ r. ⌜ r .0 ≡ up (self .0) ⌝ }
     {
         StackPointer(std::num::wrapping_add_u8(self.0, 1))
     }
 
+    // One less, modulo 256: after a push.
     pub fn decrement(self) -> StackPointer
         ensures { λ r. ⌜ r .0 ≡ down (self .0) ⌝ }
     {
@@ -142,94 +156,83 @@ impl StackPointer {
     }
 }
 
-// The registers with one of them replaced. Each is one whole literal, which the compiler keeps in the host's registers
-// instead of copying a record.
 impl Registers {
+    // The registers from their parts.
+    pub fn new(accumulator: u8, x: u8, y: u8, stack: u8, counter: u16, status: Status) -> Registers
+        ensures { λ r. ⌜ r ≡ registersOf accumulator x y stack counter status ⌝ }
+    {
+        let pointer = StackPointer(stack);
+        Registers {
+            accumulator: accumulator,
+            x: x,
+            y: y,
+            stack: pointer,
+            counter: counter,
+            status: status,
+        }
+    }
+
+    // The same registers, each kept by itself: see Status::kept_apart.
+    pub fn kept_apart(self) -> Registers
+        ensures { λ r. ⌜ r ≡ self ⌝ }
+    {
+        let status = Status::new(false, false, false, false, false, false);
+        let mut after = Registers::new(0, 0, 0, 0, 0, status);
+        after = self;
+        after
+    }
+
+    // A replaced.
     pub fn with_accumulator(self, byte: u8) -> Registers
         ensures { λ r. ⌜ r ≡ setA byte self ⌝ }
     {
-        let stack = self.stack;
-        let status = self.status;
-        Registers {
-            accumulator: byte,
-            x: self.x,
-            y: self.y,
-            stack: stack,
-            counter: self.counter,
-            status: status,
-        }
+        let mut after = self.kept_apart();
+        after.accumulator = byte;
+        after
     }
 
+    // X replaced.
     pub fn with_x(self, byte: u8) -> Registers
         ensures { λ r. ⌜ r ≡ setX byte self ⌝ }
     {
-        let stack = self.stack;
-        let status = self.status;
-        Registers {
-            accumulator: self.accumulator,
-            x: byte,
-            y: self.y,
-            stack: stack,
-            counter: self.counter,
-            status: status,
-        }
+        let mut after = self.kept_apart();
+        after.x = byte;
+        after
     }
 
+    // Y replaced.
     pub fn with_y(self, byte: u8) -> Registers
         ensures { λ r. ⌜ r ≡ setY byte self ⌝ }
     {
-        let stack = self.stack;
-        let status = self.status;
-        Registers {
-            accumulator: self.accumulator,
-            x: self.x,
-            y: byte,
-            stack: stack,
-            counter: self.counter,
-            status: status,
-        }
+        let mut after = self.kept_apart();
+        after.y = byte;
+        after
     }
 
+    // S replaced.
     pub fn with_stack(self, stack: StackPointer) -> Registers
         ensures { λ r. ⌜ r ≡ setS (stack .0) self ⌝ }
     {
-        let status = self.status;
-        Registers {
-            accumulator: self.accumulator,
-            x: self.x,
-            y: self.y,
-            stack: stack,
-            counter: self.counter,
-            status: status,
-        }
+        let mut after = self.kept_apart();
+        after.stack = stack;
+        after
     }
 
+    // The counter replaced.
     pub fn with_counter(self, address: u16) -> Registers
         ensures { λ r. ⌜ r ≡ setPC address self ⌝ }
     {
-        let stack = self.stack;
-        let status = self.status;
-        Registers {
-            accumulator: self.accumulator,
-            x: self.x,
-            y: self.y,
-            stack: stack,
-            counter: address,
-            status: status,
-        }
+        let mut after = self.kept_apart();
+        after.counter = address;
+        after
     }
 
+    // The status replaced.
     pub fn with_status(self, status: Status) -> Registers
         ensures { λ r. ⌜ r ≡ setStatus status self ⌝ }
     {
-        let stack = self.stack;
-        Registers {
-            accumulator: self.accumulator,
-            x: self.x,
-            y: self.y,
-            stack: stack,
-            counter: self.counter,
-            status: status,
-        }
+        let mut after = self.kept_apart();
+        after.status = status;
+        after
     }
 }

@@ -3,25 +3,18 @@ use Prim.Native.Nat.{ℕ}
 use mathlib.Core.Bool.{Bool, cond}
 use mathlib.Core.List.{List}
 use lib.Dec.{eqb}
+use Rattle.registers.specs.State.{registersOf}
 use Rattle.registers.specs.StatusByte.{pushedByte, pulledStatus}
 use Rattle.manual.specs.declared.Machine.{Machine}
-use Rattle.manual.specs.Stepping.{Stepped}
-use Rattle.vectors.specs.declared.line.State.{State}
+use Rattle.manual.specs.declared.Stepped.{Stepped}
+use Rattle.manual.specs.Outcomes.{machineOf, isMade}
+use Rattle.vectors.specs.declared.State.{State}
 use Rattle.replay.specs.declared.compare.Verdict.{Verdict}
 use Rattle.replay.specs.SameBytes.{sameBytes}
 
-abbrev pub machineOf : State → Machine
-machineOf s = record {
-  registers = record {
-    accumulator = s .accumulator;
-    x = s .x;
-    y = s .y;
-    stack = record { 0 = s .stack };
-    counter = s .counter;
-    status = pulledStatus (s .status);
-  };
-  cycles = s .cycles;
-}
+-- the machine of a state that was read
+abbrev pub machineAt : State → Machine
+machineAt s = machineOf (registersOf (s .accumulator) (s .x) (s .y) (s .stack) (s .counter) (pulledStatus (s .status))) (s .cycles)
 
 -- the first part that differs, the memory last
 unfoldable pub compared : Machine → State → Bool → Verdict
@@ -42,4 +35,4 @@ compared m s memory =
 
 -- a step that was made is compared with a state and a memory; one that was refused differs in its answer
 unfoldable pub judged : Stepped × List ℕ → State → List ℕ → Verdict
-judged (q, m) s expected = cond (eqb (q .answer) 0) (compared (q .machine) s (sameBytes m expected)) Verdict.Answer
+judged (q, m) s expected = cond (isMade (q .reason)) (compared (q .machine) s (sameBytes m expected)) Verdict.Answer

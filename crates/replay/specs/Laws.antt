@@ -5,18 +5,14 @@ use mathlib.Core.Path.{_≡_, refl, sym, ap, _∙_}
 use mathlib.Core.List.{List}
 use native.Mathlib.Numerals.{add-one}
 use native.Mathlib.Omega.{arith}
-use lib.ListN.{length, set, take, replicate, length-replicate, replicate-append-replicate}
+use lib.ListN.{length, set, take, replicate, replicate-append-replicate}
 use lib.Seq.{take-all, take-suc-set}
 use borrow.Author.Tests.{lt-ltb, le-ltb}
-use Rattle.vectors.specs.declared.number.Byte.{Byte}
-use Rattle.vectors.specs.declared.line.State.{State}
-use Rattle.vectors.specs.Numbers.{byteAt, markAt}
-use Rattle.vectors.specs.Lines.{stateAt, barAt, loadedFrom, mostListed, lineAfter}
+use Rattle.reading.specs.declared.Byte.{Byte}
+use Rattle.vectors.specs.declared.State.{State}
+use Rattle.reading.specs.Numbers.{byteAt, markAt}
+use Rattle.vectors.specs.Lines.{stateAt, barAt, loadedFrom, mostCells, lineAfter}
 use Rattle.replay.specs.Verdicts.{zeros, endAt, lineAt, lineVerdict, faults, tallyFrom, tallyOf}
-
--- for a repeat that is too long to be counted out
-pub repeat-length : (n : ℕ) → n ≡ length {A = ℕ} (replicate n 0)
-repeat-length n = sym (length-replicate n 0)
 
 pub clear-more : (m : List ℕ) (i : ℕ) → i < length m → take i m ≡ replicate i 0 → take (i + 1) (set m i 0) ≡ replicate (i + 1) 0
 clear-more m i below so-far =
@@ -39,13 +35,13 @@ module _ (s : List ℕ) (at : ℕ) where
       → first ≡ markAt 32 s (opcode .next)
       → before ≡ stateAt s first
       → list ≡ barAt s (before .next)
-      → loadedFrom mostListed s list z₂ ≡ (again, e₁)
-      → loadedFrom mostListed s list z₁ ≡ (loaded, m)
+      → loadedFrom mostCells s list z₂ ≡ (again, e₁)
+      → loadedFrom mostCells s list z₁ ≡ (loaded, m)
       → bar ≡ barAt s loaded
       → second ≡ markAt 32 s bar
       → after ≡ stateAt s second
       → more ≡ barAt s (after .next)
-      → loadedFrom mostListed s more e₁ ≡ (stored, e₂)
+      → loadedFrom mostCells s more e₁ ≡ (stored, e₂)
       → end ≡ endAt s stored
       → lineAt s at
       ≡ record { line = record { opcode = opcode .value; before = before; after = after; next = end }; memory = m; expected = e₂ }

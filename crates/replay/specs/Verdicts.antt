@@ -7,13 +7,13 @@ use lib.ListN.{length, getD, replicate}
 use Rattle.registers.specs.StatusByte.{pushedByte, pulledStatus}
 use Rattle.manual.specs.Micro.{exec}
 use Rattle.manual.specs.Stepping.{step}
-use Rattle.vectors.specs.declared.line.State.{State}
-use Rattle.vectors.specs.Numbers.{nowhere, byteAt, markAt}
-use Rattle.vectors.specs.Lines.{stateAt, barAt, loadedFrom, mostListed, lineAfter}
+use Rattle.vectors.specs.declared.State.{State}
+use Rattle.reading.specs.Numbers.{nowhere, byteAt, markAt}
+use Rattle.vectors.specs.Lines.{stateAt, barAt, loadedFrom, mostCells, lineAfter}
 use Rattle.replay.specs.declared.compare.Verdict.{Verdict}
 use Rattle.replay.specs.declared.line.Line.{Line}
 use Rattle.replay.specs.declared.Tally.{Tally}
-use Rattle.replay.specs.Comparison.{machineOf, judged}
+use Rattle.replay.specs.Comparison.{machineAt, judged}
 
 -- LF, or a space and LF
 unfoldable pub endAt : List ℕ → ℕ → ℕ
@@ -39,9 +39,9 @@ unfoldable pub lineAt : List ℕ → ℕ → Lined
 lineAt s at =
     let opcode = byteAt s at in
     let before = stateAt s (markAt 32 s (opcode .next)) in
-    let loaded = loadedFrom mostListed s (barAt s (before .next)) zeros in
+    let loaded = loadedFrom mostCells s (barAt s (before .next)) zeros in
     let after = stateAt s (markAt 32 s (barAt s (loaded .0))) in
-    let stored = loadedFrom mostListed s (barAt s (after .next)) (loaded .1) in
+    let stored = loadedFrom mostCells s (barAt s (after .next)) (loaded .1) in
     record {
       line = record { opcode = opcode .value; before = before; after = after; next = endAt s (stored .0) };
       memory = loaded .1;
@@ -53,7 +53,7 @@ unfoldable pub verdictOn : Lined → Verdict
 verdictOn l =
     cond (eqb (l .line .next) nowhere) Verdict.Malformed
     (cond (wellFormed (l .line .opcode) (l .line .before) (l .memory))
-    (judged (exec (step (length (l .memory)) (machineOf (l .line .before))) (l .memory)) (l .line .after) (l .expected))
+    (judged (exec (step (length (l .memory)) (machineAt (l .line .before))) (l .memory)) (l .line .after) (l .expected))
     Verdict.Malformed)
 
 unfoldable pub lineVerdict : List ℕ → ℕ → Verdict

@@ -3,17 +3,15 @@ ghost use mathlib.Core.Path.{_≡_};
 ghost use lib.ListN.{length};
 ghost use Rattle.manual.specs.Micro.{exec};
 ghost use Rattle.manual.specs.Stepping.{step};
-ghost use Rattle.replay.specs.Comparison.{machineOf, compared, judged};
-use cpu::StepAnswer;
+ghost use Rattle.replay.specs.Comparison.{machineAt, compared, judged};
 use cpu::single_step;
 use manual::Machine;
 use registers::Registers;
-use registers::StackPointer;
 use registers::Status;
 use vectors::State;
 
 // The first part in which a step and its line differ.
-pub enum Verdict {
+pub(crate) enum Verdict {
     Same,
     Malformed,
     Answer,
@@ -28,23 +26,19 @@ pub enum Verdict {
 }
 
 // The machine of a state that was read.
-fn machine_of(state: State) -> Machine
-    ensures { λ r. ⌜ r ≡ machineOf state ⌝ }
+fn machine_at(state: State) -> Machine
+    ensures { λ r. ⌜ r ≡ machineAt state ⌝ }
 {
-    let stack = StackPointer(state.stack);
     let status = Status::pulled(state.status);
-    let registers = Registers {
-        accumulator: state.accumulator,
-        x: state.x,
-        y: state.y,
-        stack: stack,
-        counter: state.counter,
-        status: status,
-    };
-    Machine {
-        registers: registers,
-        cycles: state.cycles,
-    }
+    let registers = Registers::new(
+        state.accumulator,
+        state.x,
+        state.y,
+        state.stack,
+        state.counter,
+        status,
+    );
+    Machine::new(registers, state.cycles)
 }
 
 // The status is compared as the byte that PHP pushes.
@@ -80,18 +74,18 @@ fn compare(machine: Machine, state: State, same: bool) -> Verdict
 }
 
 // Makes the step, and compares the machine and the whole memory after it.
-pub fn judge(before: State, after: State, memory: &mut [u8], expected: &[u8]) -> Verdict
+pub(crate) fn judge(before: State, after: State, memory: &mut [u8], expected: &[u8]) -> Verdict
     ensures { λ r.
         ⌜ r
         ≡ judged
-        (exec (step (length (now (memory .entry))) (machineOf before)) (now (memory .entry)))
+        (exec (step (length (now (memory .entry))) (machineAt before)) (now (memory .entry)))
         after
         (now (expected .entry)) ⌝ }
 {
-    match single_step(machine_of(before), memory) {
-        StepAnswer::Made(machine) => compare(machine, after, check::same(memory, expected)),
-        StepAnswer::MemoryNotFull(_) => Verdict::Answer,
-        StepAnswer::NoCycleRoom(_) => Verdict::Answer,
-        StepAnswer::NotAnOpcode(_) => Verdict::Answer,
+    let stepped = single_step(machine_at(before), memory);
+    let reason = stepped.reason;
+    if reason.is_made() {
+        return compare(stepped.machine, after, check::same(memory, expected));
     }
+    Verdict::Answer
 }

@@ -6,13 +6,13 @@ use crate::compare::Verdict;
 use crate::compare::judge;
 use memory::Address;
 use memory::peek;
+use reading::NOWHERE;
+use reading::read_byte;
+use reading::read_mark;
 use registers::Status;
-use vectors::NOWHERE;
 use vectors::State;
 use vectors::load_bytes;
 use vectors::read_bar;
-use vectors::read_byte;
-use vectors::read_mark;
 use vectors::read_state;
 
 // What a line says, but for its bytes of memory, and where the text goes on.
@@ -79,7 +79,7 @@ fn read_line(text: &[u8], at: usize, memory: &mut [u8], expected: &mut [u8]) -> 
 }
 
 // The verdict on a line, by way of two scratch memories.
-pub fn replay_line(text: &[u8], at: usize, memory: &mut [u8], expected: &mut [u8]) -> Verdict
+pub(crate) fn replay_line(text: &[u8], at: usize, memory: &mut [u8], expected: &mut [u8]) -> Verdict
     requires { ⌜ (length (now memory) ≡ 65536) × (length (now expected) ≡ 65536) ⌝ }
     ensures { λ r. ⌜ r ≡ lineVerdict (now (text .entry)) at ⌝ }
 {

@@ -1,14 +1,27 @@
 // Makes the steps of a list again, which the Rust has made, and says how many differ.
 //
-// Every line of standard input is one step, in the form of the crate vectors. Each line that differs is named.
+// run replay [LIST]
+//
+// Every line of the list is one step, in the form of the crate vectors. The list is a file of fewer than 2,097,152 bytes, or
+// standard input where it is `-` or none is named. Each line that differs is named.
+//
+// Exit status: 0 there are lines and none differs; 1 one differs, or there is none, or the list is too long; 64 wrong usage,
+// 66 the list cannot be opened, 74 reading or writing failed.
 ghost use Prim.Native.Nat.{_≤_};
 ghost use mathlib.Core.Path.{_≡_};
 ghost use lib.ListN.{length};
 ghost use Rattle.replay.specs.Verdicts.{faults, tallyOf};
 use compare::Verdict;
-use libc::STDIN_FILENO;
+use console::hand_over;
+use console::has_option;
+use console::read_input;
+use console::refuse;
+use console::say_of;
+use console::write_output;
 use libc::STDOUT_FILENO;
 use line::replay_line;
+use statuses::FAILED;
+use statuses::check_status;
 use vectors::next_line;
 
 mod compare; // compare.rt: one step against what a line says of it
@@ -20,20 +33,45 @@ struct Tally {
     differ: u64,
 }
 
-// Answers whether the text was written.
-fn write_part(verdict: Verdict) -> bool {
+// A word for each verdict, with the end of the line; all are of one length, so that one write serves them.
+const SAME: [u8; 12] = *b"same       \n";
+
+const MALFORMED: [u8; 12] = *b"malformed  \n";
+
+const ANSWER: [u8; 12] = *b"answer     \n";
+
+const COUNTER: [u8; 12] = *b"counter    \n";
+
+const ACCUMULATOR: [u8; 12] = *b"accumulator\n";
+
+const X: [u8; 12] = *b"x          \n";
+
+const Y: [u8; 12] = *b"y          \n";
+
+const STACK: [u8; 12] = *b"stack      \n";
+
+const STATUS: [u8; 12] = *b"status     \n";
+
+const CYCLES: [u8; 12] = *b"cycles     \n";
+
+const MEMORY: [u8; 12] = *b"memory     \n";
+
+// The word for a verdict. The ensures gives only the length, which lending the array as a slice needs.
+fn word_of(verdict: Verdict) -> [u8; 12]
+    ensures { λ r. ⌜ 12 ≡ length r ⌝ }
+{
     match verdict {
-        Verdict::Same => io::write_all(STDOUT_FILENO, b"same\n"),
-        Verdict::Malformed => io::write_all(STDOUT_FILENO, b"malformed\n"),
-        Verdict::Answer => io::write_all(STDOUT_FILENO, b"answer\n"),
-        Verdict::Counter => io::write_all(STDOUT_FILENO, b"counter\n"),
-        Verdict::Accumulator => io::write_all(STDOUT_FILENO, b"accumulator\n"),
-        Verdict::X => io::write_all(STDOUT_FILENO, b"x\n"),
-        Verdict::Y => io::write_all(STDOUT_FILENO, b"y\n"),
-        Verdict::Stack => io::write_all(STDOUT_FILENO, b"stack\n"),
-        Verdict::Status => io::write_all(STDOUT_FILENO, b"status\n"),
-        Verdict::Cycles => io::write_all(STDOUT_FILENO, b"cycles\n"),
-        Verdict::Memory => io::write_all(STDOUT_FILENO, b"memory\n"),
+        Verdict::Same => SAME,
+        Verdict::Malformed => MALFORMED,
+        Verdict::Answer => ANSWER,
+        Verdict::Counter => COUNTER,
+        Verdict::Accumulator => ACCUMULATOR,
+        Verdict::X => X,
+        Verdict::Y => Y,
+        Verdict::Stack => STACK,
+        Verdict::Status => STATUS,
+        Verdict::Cycles => CYCLES,
+        Verdict::Memory => MEMORY,
     }
 }
 
@@ -48,7 +86,8 @@ fn tell(line: u64, verdict: Verdict) -> u64
     io::write_all(STDOUT_FILENO, b"line ");
     io::print_decimal(STDOUT_FILENO, line);
     io::write_all(STDOUT_FILENO, b": ");
-    write_part(verdict);
+    let word = word_of(verdict);
+    io::write_all(STDOUT_FILENO, &word);
     1
 }
 
@@ -79,15 +118,38 @@ fn list_buffer() -> [u8; 2097152]
     [0; 2097152]
 }
 
-fn main() {
-    let mut text = list_buffer();
-    let size = io::read_full(STDIN_FILENO, &mut text);
-    if size == 2097152 {
-        io::write_all(STDOUT_FILENO, b"the list is too long\n");
-    }
-    let tally = replay(&text[..size]);
+// The last line. Where a line before it was not written, it is not written either.
+fn conclude(tally: Tally) -> u8 {
     io::print_decimal(STDOUT_FILENO, tally.lines);
     io::write_all(STDOUT_FILENO, b" steps replayed, ");
     io::print_decimal(STDOUT_FILENO, tally.differ);
-    io::write_all(STDOUT_FILENO, b" differ\n");
+    if write_output(b" differ\n") {
+        return check_status(tally.lines, tally.differ);
+    }
+    FAILED
+}
+
+fn replay_input() -> u8 {
+    let mut text = list_buffer();
+    let input = read_input(1, &mut text);
+    if input.status != 0 {
+        return input.status;
+    }
+    let size = input.size;
+    if size == 2097152 {
+        say_of(1, b"refused: the list is too long\n");
+        return 1;
+    }
+    conclude(replay(&text[..size]))
+}
+
+fn replay_by_arguments() -> u8 {
+    if 2 < os::arg_count() || has_option(1) {
+        return refuse(b"replay: the only argument is a list; ./run replay --help\n");
+    }
+    replay_input()
+}
+
+fn main() {
+    hand_over(replay_by_arguments());
 }

@@ -1,16 +1,42 @@
--- What a run's answer means, in a sentence for whoever sits at the terminal. The image is the one that the run left.
+-- How a run ended, in a sentence. The image is the one that the run left.
 use Prim.Native.Nat.{ℕ}
+use mathlib.Core.Bool.{cond}
 use mathlib.Core.List.{List, _++_}
 use lib.ListN.{getD}
-use Rattle.cpu.specs.declared.RunAnswer.{RunAnswer}
-use Rattle.text.specs.Numerals.{characters, hex2, hex4}
+use Rattle.manual.specs.declared.Ended.{Ended}
+use Rattle.manual.specs.declared.Reason.{Reason}
+use Rattle.manual.specs.declared.Reason.the-variants.{Made, MemoryNotFull, NoCycleRoom, NotAnOpcode, BoundTooHigh}
+use Rattle.manual.specs.Outcomes.{isMade}
+use Rattle.laws.specs.Characters.{characters}
+use Rattle.text.specs.Numerals.{hex2, hex4, decimal}
+use Rattle.statuses.specs.declared.Goal.{Goal}
+use Rattle.statuses.specs.Statuses.{reached}
 
 abbrev pub stop : ℕ → ℕ → List ℕ
 stop b counter = characters "stopped: the byte " ++ hex2 b ++ characters " at " ++ hex4 counter ++ characters " is no documented opcode\n"
 
-unfoldable pub sentence : RunAnswer → List ℕ → List ℕ
-sentence (RunAnswer.Made p) image = characters "not finished: the program was still running after 1000 steps\n"
-sentence (RunAnswer.MemoryNotFull p) image = characters "refused: the image is not 65536 bytes long\n"
-sentence (RunAnswer.NoCycleRoom p) image = characters "stopped: the cycle count has no room for another step\n"
-sentence (RunAnswer.NotAnOpcode p) image = let counter = p .machine .registers .counter in stop (getD image counter 0) counter
-sentence (RunAnswer.BoundTooHigh p) image = characters "refused: more than 1000000 steps were asked for\n"
+abbrev pub running : ℕ → List ℕ
+running steps = characters "not finished: the program was still running after " ++ decimal steps ++ characters " steps\n"
+
+-- the steps that were made, the counter where the run ended, and the byte there
+unfoldable pub meaning : Reason → ℕ → ℕ → ℕ → List ℕ
+meaning Made steps counter b = running steps
+meaning MemoryNotFull steps counter b = characters "refused: the image is not 65536 bytes long\n"
+meaning NoCycleRoom steps counter b = characters "stopped: the cycle count has no room for another step\n"
+meaning NotAnOpcode steps counter b = stop b counter
+meaning BoundTooHigh steps counter b = characters "refused: more than 1000000 steps were asked for\n"
+
+abbrev pub allMade : ℕ → List ℕ
+allMade steps = characters "done: all " ++ decimal steps ++ characters " steps were made\n"
+
+abbrev pub endedAt : ℕ → List ℕ
+endedAt counter = characters "done: it ended at " ++ hex4 counter ++ characters ", as it was meant to\n"
+
+-- where the run ended as it was meant to
+unfoldable pub done : Reason → ℕ → ℕ → List ℕ
+done reason steps counter = cond (isMade reason) (allMade steps) (endedAt counter)
+
+unfoldable pub sentence : Goal → Ended → List ℕ → List ℕ
+sentence goal q image =
+    let counter = q .machine .registers .counter in
+    cond (reached goal q) (done (q .reason) (q .steps) counter) (meaning (q .reason) (q .steps) counter (getD image counter 0))

@@ -2,55 +2,41 @@
 ghost use mathlib.Core.Path.{_≡_};
 ghost use lib.ListN.{length};
 ghost use Rattle.manual.specs.Micro.{Gives};
-ghost use Rattle.cpu.specs.Answers.{runResult};
-ghost use Rattle.reporting.specs.Report.{start as Report·start, imageRun};
-use cpu::Progress;
-use cpu::RunAnswer;
+ghost use Rattle.reporting.specs.Report.{start as Report·start, imageRun, imageStart};
 use cpu::run;
+use manual::Ended;
+use manual::FULL_MEMORY;
 use manual::Machine;
 use memory::Address;
 use memory::address_from_bytes;
 use memory::read_address;
 use registers::Registers;
-use registers::StackPointer;
 use registers::Status;
 
+// The machine that a program starts with.
 fn start(counter: u16) -> Machine
     ensures { λ r. ⌜ r ≡ Report·start counter ⌝ }
 {
-    let stack = StackPointer(0xFF);
-    let status = Status {
-        negative: false,
-        overflow: false,
-        decimal: false,
-        disable: true,
-        zero: false,
-        carry: false,
-    };
-    let registers = Registers {
-        accumulator: 0x00,
-        x: 0x00,
-        y: 0x00,
-        stack: stack,
-        counter: counter,
-        status: status,
-    };
-    Machine {
-        registers: registers,
-        cycles: 0,
-    }
+    let status = Status::new(false, false, false, true, false, false);
+    let registers = Registers::new(0x00, 0x00, 0x00, 0xFF, counter, status);
+    Machine::new(registers, 0)
 }
 
-pub(crate) fn run_image(image: &mut [u8]) -> RunAnswer
-    ensures { λ r. ⌜ Gives (imageRun (length (now (image .entry)))) (now (image .entry)) (runResult r) (now (image .exit)) ⌝ }
+// The machine that an image starts with. One of another length is not looked at.
+pub fn start_image(image: &[u8]) -> Machine
+    ensures { λ r. ⌜ r ≡ imageStart (now (image .entry)) ⌝ }
 {
-    if image.len() != 65536 {
-        let machine = start(0);
-        return RunAnswer::MemoryNotFull(Progress {
-            steps: 0,
-            machine: machine,
-        });
+    if image.len() != FULL_MEMORY {
+        return start(0);
     }
     let first = address_from_bytes(read_address(image, Address(0xFFFC), Address(0xFFFD)));
-    run(start(first.0), 1000, image)
+    start(first.0)
+}
+
+// Runs an image for at most 1,000 steps.
+pub(crate) fn run_image(image: &mut [u8]) -> Ended
+    ensures { λ r. ⌜ Gives (imageRun (length (now (image .entry)))) (now (image .entry)) r (now (image .exit)) ⌝ }
+{
+    let machine = start_image(image);
+    run(machine, 1000, image)
 }

@@ -7,8 +7,8 @@ use native.Mathlib.Nat.{add-zero, add-suc, suc-add, add-assoc, pow-suc}
 use native.Mathlib.Numerals.{add-one}
 use native.Mathlib.Omega.{arith}
 use lib.Dec.{ltb}
-use lib.ListN.{length, length-append, take, drop, set, getD}
-use lib.Seq.{sets, length-sets, sets-eq, set-out, take-at, take-suc, take-all}
+use lib.ListN.{length, length-append, take, set, getD}
+use lib.Seq.{sets, length-sets, set-out, take-suc, take-all}
 use borrow.Author.Tests.{lt-ltb, le-ltb, ltb-true, ltb-false}
 use Rattle.text.specs.Numerals.{digit, digits, decimal}
 use Rattle.text.specs.Written.{most, Wrote}
@@ -43,16 +43,9 @@ then {l} {m} {k} {s} {t} {i} {j} {n} p q =
       ends = q .ends ∙ rw (p .ends, length-append, ← add-assoc) (min-min (i + length s) (length t));
     }
 
--- Where there is room, the buffer is what stood before, the text, and what stood after.
-pub apart : {l m s : List ℕ} {i j : ℕ} → Wrote l i s m j → i + length s ≤ length l
-    → (m ≡ take i l ++ s ++ drop (i + length s) l) × (j ≡ i + length s)
-apart {l} {m} {s} {i} {j} p h = (p .bytes ∙ sets-eq s l i h, omega (arith, p .ends, p .fits))
-
--- A text at the start of a buffer that holds it is the buffer's first characters.
-pub front : {l m s : List ℕ} {j : ℕ} → Wrote l 0 s m j → length s ≤ length l → take j m ≡ s
-front {l} {m} {s} {j} p h =
-    let r = apart p (omega (arith, h)) in
-    rw (r .0) (take-at s (drop (0 + length s) l) j (omega (arith, r .1)))
+-- Where a short text ends.
+pub within : {l t l′ : List ℕ} {at next n : ℕ} → Wrote l at t l′ next → length t ≤ n → next ≤ at + n
+within w h = omega (arith, w .ends)
 
 pub nothing : {l : List ℕ} {n : ℕ} → length l ≤ most → n ≤ most → Wrote l n [] l n
 nothing {l} {n} f h = record { fits = f; bytes = refl; ends = omega arith }

@@ -1,17 +1,11 @@
--- Characters, and numbers written in them: two or four capital hexadecimal digits, or decimal with no leading zero.
+-- Numbers written in characters: two or four capital hexadecimal digits, or decimal with no leading zero.
 use mathlib.Core.Path.{_≡_, refl}
 use mathlib.Core.Bool.{cond}
 use mathlib.Core.List.{List, [], _∷_, _++_}
 use Prim.Native.Nat.{ℕ, zero, suc, _/_, _%_}
-use Prim.Native.Char.{code}
-use Prim.Native.String.{String, [] as end, _∷_ as _and_}
 use lib.Dec.{ltb}
 use lib.ListN.{getD}
-
--- the codes of a text's characters
-abbrev pub characters : String → List ℕ
-characters end = []
-characters (c and s) = code c ∷ characters s
+use Rattle.laws.specs.Characters.{characters}
 
 unfoldable pub digit : ℕ → ℕ
 digit d = getD (characters "0123456789ABCDEF") d 0

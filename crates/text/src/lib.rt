@@ -7,8 +7,27 @@ ghost use Prim.Native.Nat.{_<_};
 ghost use Rattle.text.specs.Written.{Wrote};
 ghost use Rattle.text.specs.Numerals.{digit as Numerals·digit, hex2, hex4, decimal, spaced};
 
+// The answer of a function that delivers a text into a lent buffer, and the length of the text at the buffer's start.
+pub struct Delivery {
+    pub answer: u8,
+    pub size: usize,
+}
+
+impl Delivery {
+    // Nothing was written.
+    pub fn refused(answer: u8) -> Delivery
+        ensures { λ r. ⌜ r ≡ record { answer = answer; size = 0 } ⌝ }
+    {
+        Delivery {
+            answer: answer,
+            size: 0,
+        }
+    }
+}
+
 const DIGITS: [u8; 16] = *b"0123456789ABCDEF";
 
+// One character.
 pub fn put_byte(out: &mut [u8], at: usize, byte: u8) -> usize
     ensures { λ r. ⌜ Wrote (now (out .entry)) at (byte ∷ []) (now (out .exit)) r ⌝ }
 {
@@ -22,6 +41,7 @@ pub fn put_byte(out: &mut [u8], at: usize, byte: u8) -> usize
     }
 }
 
+// The characters of a text.
 pub fn put_text(out: &mut [u8], at: usize, text: &[u8]) -> usize
     ensures { λ r. ⌜ Wrote (now (out .entry)) at (now (text .entry)) (now (out .exit)) r ⌝ }
 {
@@ -34,6 +54,7 @@ pub fn put_text(out: &mut [u8], at: usize, text: &[u8]) -> usize
     next
 }
 
+// The character of a digit.
 fn digit(value: u8) -> u8
     requires { ⌜ value < 16 ⌝ }
     ensures { λ r. ⌜ r ≡ Numerals·digit value ⌝ }
@@ -41,6 +62,7 @@ fn digit(value: u8) -> u8
     DIGITS[value as usize]
 }
 
+// A byte as two capital hexadecimal digits.
 pub fn put_hex2(out: &mut [u8], at: usize, byte: u8) -> usize
     ensures { λ r. ⌜ Wrote (now (out .entry)) at (hex2 byte) (now (out .exit)) r ⌝ }
 {
@@ -48,6 +70,7 @@ pub fn put_hex2(out: &mut [u8], at: usize, byte: u8) -> usize
     put_byte(out, next, digit(byte % 16))
 }
 
+// A word as four.
 pub fn put_hex4(out: &mut [u8], at: usize, word: u16) -> usize
     ensures { λ r. ⌜ Wrote (now (out .entry)) at (hex4 word) (now (out .exit)) r ⌝ }
 {
@@ -55,6 +78,7 @@ pub fn put_hex4(out: &mut [u8], at: usize, word: u16) -> usize
     put_hex2(out, next, (word % 256) as u8)
 }
 
+// A number in decimal, with no leading zero.
 pub fn put_decimal(out: &mut [u8], at: usize, number: u64) -> usize
     ensures { λ r. ⌜ Wrote (now (out .entry)) at (decimal number) (now (out .exit)) r ⌝ }
 {
@@ -66,7 +90,7 @@ pub fn put_decimal(out: &mut [u8], at: usize, number: u64) -> usize
     }
 }
 
-// The same as fields of a line, with a space before each.
+// A byte as a field of a line: a space stands before it.
 pub fn put_spaced_hex2(out: &mut [u8], at: usize, byte: u8) -> usize
     ensures { λ r. ⌜ Wrote (now (out .entry)) at (spaced (hex2 byte)) (now (out .exit)) r ⌝ }
 {
@@ -74,6 +98,7 @@ pub fn put_spaced_hex2(out: &mut [u8], at: usize, byte: u8) -> usize
     put_hex2(out, next, byte)
 }
 
+// A word as a field.
 pub fn put_spaced_hex4(out: &mut [u8], at: usize, word: u16) -> usize
     ensures { λ r. ⌜ Wrote (now (out .entry)) at (spaced (hex4 word)) (now (out .exit)) r ⌝ }
 {
@@ -81,6 +106,7 @@ pub fn put_spaced_hex4(out: &mut [u8], at: usize, word: u16) -> usize
     put_hex4(out, next, word)
 }
 
+// A number in decimal as a field.
 pub fn put_spaced_decimal(out: &mut [u8], at: usize, number: u64) -> usize
     ensures { λ r. ⌜ Wrote (now (out .entry)) at (spaced (decimal number)) (now (out .exit)) r ⌝ }
 {

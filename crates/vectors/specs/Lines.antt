@@ -1,13 +1,13 @@
--- What stands at a place of a line: a state, a list of bytes.
+-- What stands at a place of a line: a state, a list of cells.
 use Prim.Native.Nat.{ℕ, zero, suc, _+_, _-_}
 use mathlib.Core.Bool.{cond}
 use mathlib.Core.List.{List}
 use lib.Dec.{eqb}
 use lib.ListN.{length, getD, set}
-use Rattle.vectors.specs.declared.number.Byte.{Byte}
-use Rattle.vectors.specs.declared.line.State.{State}
-use Rattle.vectors.specs.declared.line.Listed.{Listed}
-use Rattle.vectors.specs.Numbers.{nowhere, byteAt, wordAt, countAt, markAt}
+use Rattle.reading.specs.declared.Byte.{Byte}
+use Rattle.vectors.specs.declared.State.{State}
+use Rattle.vectors.specs.declared.Cell.{Cell}
+use Rattle.reading.specs.Numbers.{nowhere, byteAt, wordAt, countAt, markAt}
 
 -- a space and a byte
 unfoldable pub spacedByteAt : List ℕ → ℕ → Byte
@@ -35,22 +35,22 @@ stateAt s at =
     }
 
 -- ` BB@AAAA`
-unfoldable pub listedAt : List ℕ → ℕ → Listed
-listedAt s at =
+unfoldable pub cellAt : List ℕ → ℕ → Cell
+cellAt s at =
     let byte = spacedByteAt s at in
     let address = wordAt s (markAt 64 s (byte .next)) in
     record { byte = byte .value; address = address .value; next = address .next }
 
--- the place after at most n listed bytes, and the memory with these stored
+-- the place after at most n cells, and the memory with these stored
 unfoldable pub loadedFrom : ℕ → List ℕ → ℕ → List ℕ → ℕ × List ℕ
 loadedFrom zero s at m = (at, m)
 loadedFrom (suc n) s at m =
-    let b = listedAt s at in
+    let b = cellAt s at in
     cond (eqb (b .next) nowhere) (at, m) (loadedFrom n s (b .next) (set m (b .address) (b .byte)))
 
 -- how many bytes a list has at most
-abbrev pub mostListed : ℕ
-mostListed = 64
+abbrev pub mostCells : ℕ
+mostCells = 64
 
 -- ` |`
 unfoldable pub barAt : List ℕ → ℕ → ℕ

@@ -1,4 +1,4 @@
--- Each line of document 01's answer table, 'given exactly when', for a step; and what is left behind.
+-- Each line of the answer table (docs/RULES.md), 'given exactly when', for a step; and what is left behind.
 use Prim.Native.Nat.{ℕ, _≤_, _<_}
 use mathlib.Core.Path.{_≡_, refl, ap}
 use mathlib.Core.Logic.{_↔_}
@@ -10,8 +10,12 @@ use Rattle.instruction.specs.declared.Decoded.{Decoded}
 use Rattle.instruction.specs.declared.Decoded.the-variants.{Defined, Undefined}
 use Rattle.instruction.specs.Opcodes.{decoded}
 use Rattle.manual.specs.declared.Machine.{Machine}
+use Rattle.manual.specs.declared.Stepped.{Stepped}
+use Rattle.manual.specs.declared.Reason.{Reason}
+use Rattle.manual.specs.declared.Reason.the-variants.{MemoryNotFull, NoCycleRoom, NotAnOpcode}
 use Rattle.manual.specs.Micro.{exec, Gives}
-use Rattle.manual.specs.Stepping.{Stepped, fullMemory, highestCount, stepped, stepFull, step}
+use Rattle.manual.specs.Outcomes.{number, refused}
+use Rattle.manual.specs.Stepping.{fullMemory, highestCount, stepFull, step}
 use Rattle.manual.specs.Theorems.StepLaws.{opcodeOf, step-short, step-whole, step-late, step-undefined, step-defined}
 
 -- why a step on a full memory is refused
@@ -44,26 +48,26 @@ way s m = room (decLt highestCount (s .cycles))
 
 -- the answer to a step, and that it is the one of any result that meets the step's promise
 abbrev pub stepAnswer : ℕ → Machine → List ℕ → ℕ
-stepAnswer size s m = exec (step size s) m .0 .answer
+stepAnswer size s m = number (exec (step size s) m .0 .reason)
 
-answers : (size : ℕ) (s : Machine) (m : List ℕ) {q : Stepped} {m′ : List ℕ} → Gives (step size s) m q m′ → stepAnswer size s m ≡ q .answer
-answers size s m g = ap (λ (w : Stepped × List ℕ). w .0 .answer) g
+answers : (size : ℕ) (s : Machine) (m : List ℕ) {q : Stepped} {m′ : List ℕ} → Gives (step size s) m q m′ → stepAnswer size s m ≡ number (q .reason)
+answers size s m g = ap (λ (w : Stepped × List ℕ). number (w .0 .reason)) g
 
--- The table for a step: each answer is given exactly when document 01 says, and a refused step changes nothing.
+-- The table for a step: each answer is given exactly when the rules say, and a refused step changes nothing.
 pub record StepAnswers (size : ℕ) (s : Machine) (m : List ℕ) : Type 0 where
   pub zero : (stepAnswer size s m ≡ 0) ↔ ((size ≡ fullMemory) × Ready s m)
   pub one : (stepAnswer size s m ≡ 1) ↔ (size ≡ fullMemory → ⊥)
   pub two : (stepAnswer size s m ≡ 2) ↔ ((size ≡ fullMemory) × NoRoom s)
   pub three : (stepAnswer size s m ≡ 3) ↔ ((size ≡ fullMemory) × NoOpcode s m)
-  pub refused : (stepAnswer size s m ≡ 0 → ⊥) → Gives (step size s) m (stepped (stepAnswer size s m) s) m
+  pub unchanged : (stepAnswer size s m ≡ 0 → ⊥) → Gives (step size s) m (refused (exec (step size s) m .0 .reason) s) m
 
 pub not-both : (d : Decoded) (e : Entry) → d ≡ Undefined → d ≡ Defined e → ⊥
 not-both d e p q = let z : _≡_ {A = ℕ} 0 1 = cc in omega arith
 
--- a refusal with the answer n, from the step's law
+-- a refusal, from the step's law
 module _ (size : ℕ) (s : Machine) (m : List ℕ) where
-  stays : (n : ℕ) → Gives (step size s) m (stepped n s) m → Gives (step size s) m (stepped (stepAnswer size s m) s) m
-  stays n g = rw (answers size s m g) g
+  stays : (r : Reason) → Gives (step size s) m (refused r s) m → Gives (step size s) m (refused (exec (step size s) m .0 .reason) s) m
+  stays r g = rw (ap (λ (w : Stepped × List ℕ). w .0 .reason) g) g
 
   whole : {q : Stepped} {m′ : List ℕ} → size ≡ fullMemory → Gives (stepFull s) m q m′ → Gives (step size s) m q m′
   whole e g = rw (step-whole size s e) g
@@ -77,7 +81,7 @@ module _ (size : ℕ) (s : Machine) (m : List ℕ) where
         one = (λ z. absurd (omega arith), λ c. absurd (c f));
         two = (λ z. (f, h), λ c. a);
         three = (λ z. absurd (omega arith), λ c. absurd (omega arith));
-        refused = λ z. stays 2 g;
+        unchanged = λ z. stays NoCycleRoom g;
       }
   by-way f (undefined h) =
       let g = whole f (step-undefined s m (h .0) (h .1)) in
@@ -87,7 +91,7 @@ module _ (size : ℕ) (s : Machine) (m : List ℕ) where
         one = (λ z. absurd (omega arith), λ c. absurd (c f));
         two = (λ z. absurd (omega arith), λ c. absurd (omega arith));
         three = (λ z. (f, h), λ c. a);
-        refused = λ z. stays 3 g;
+        unchanged = λ z. stays NotAnOpcode g;
       }
   by-way f (ready h) =
       let e = h .1 .0 in
@@ -98,7 +102,7 @@ module _ (size : ℕ) (s : Machine) (m : List ℕ) where
         one = (λ z. absurd (omega arith), λ c. absurd (c f));
         two = (λ z. absurd (omega arith), λ c. absurd (omega arith));
         three = (λ z. absurd (omega arith), λ c. absurd (not-both _ _ (c .1 .1) (h .1 .1)));
-        refused = λ z. absurd (z a);
+        unchanged = λ z. absurd (z a);
       }
 
   not-full : (size ≡ fullMemory → ⊥) → StepAnswers size s m
@@ -110,7 +114,7 @@ module _ (size : ℕ) (s : Machine) (m : List ℕ) where
         one = (λ z. f, λ c. a);
         two = (λ z. absurd (omega arith), λ c. absurd (f (c .0)));
         three = (λ z. absurd (omega arith), λ c. absurd (f (c .0)));
-        refused = λ z. stays 1 g;
+        unchanged = λ z. stays MemoryNotFull g;
       }
 
 pub step-answers : (size : ℕ) (s : Machine) (m : List ℕ) → StepAnswers size s m

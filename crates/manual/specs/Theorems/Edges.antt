@@ -1,5 +1,5 @@
--- The edges of document 01's answer table.
-use Prim.Native.Nat.{ℕ, _+_, _-_, _^_}
+-- The edges of the answer table (docs/RULES.md).
+use Prim.Native.Nat.{ℕ, suc, _+_, _-_, _<_, _^_}
 use mathlib.Core.Path.{_≡_, refl}
 use mathlib.Core.List.{List, []}
 use native.Mathlib.Omega.{arith}
@@ -7,14 +7,17 @@ use Rattle.instruction.specs.declared.Entry.{Entry}
 use Rattle.instruction.specs.declared.Decoded.the-variants.{Defined}
 use Rattle.instruction.specs.Opcodes.{decoded}
 use Rattle.manual.specs.declared.Machine.{Machine}
-use Rattle.manual.specs.Micro.{reads, Gives}
-use Rattle.manual.specs.Stepping.{stepped, finished, stepFull, step, runFull, run}
+use Rattle.manual.specs.Micro.{accesses, reads, Gives}
+use Rattle.manual.specs.declared.Reason.the-variants.{Made, MemoryNotFull, NoCycleRoom, BoundTooHigh}
+use Rattle.manual.specs.Outcomes.{refused, ended}
+use Rattle.manual.specs.Stepping.{stepFull, step, runFull, run}
 use Rattle.manual.specs.Theorems.StepLaws.{opcodeOf, step-late}
 use Rattle.manual.specs.Theorems.Answers.{stepAnswer, step-answers}
+use Rattle.manual.specs.Theorems.RunAnswers.{no-cycle-room, ran, run-answers}
 
 module _ (s : Machine) (m : List ℕ) where
-  -- A memory of 65,535 bytes gives 1, and so does one of 65,537; one of 65,536 is stepped.
-  pub length-65535 : Gives (step 65535 s) m (stepped 1 s) m
+  -- A memory of 65,535 bytes gives 1, and so does one of 65,537; one of 65,536 is stepped, and run.
+  pub length-65535 : Gives (step 65535 s) m (refused MemoryNotFull s) m
   unfolding step
   length-65535 = refl
 
@@ -22,9 +25,17 @@ module _ (s : Machine) (m : List ℕ) where
   unfolding step
   length-65536 = refl
 
-  pub length-65537 : Gives (step 65537 s) m (stepped 1 s) m
+  pub length-65537 : Gives (step 65537 s) m (refused MemoryNotFull s) m
   unfolding step
   length-65537 = refl
+
+  pub run-length-65535 : (bound : ℕ) → Gives (run 65535 bound s) m (ended MemoryNotFull 0 s) m
+  unfolding run
+  run-length-65535 bound = refl
+
+  pub run-length-65537 : (bound : ℕ) → Gives (run 65537 bound s) m (ended MemoryNotFull 0 s) m
+  unfolding run
+  run-length-65537 bound = refl
 
   -- From the count ..608 a step is made, and seven more cycles reach the last number of 64 bits; ..609 gives 2.
   pub count-608 : (e : Entry) → s .cycles ≡ 18446744073709551608 → decoded (opcodeOf s m) ≡ Defined e → stepAnswer 65536 s m ≡ 0
@@ -33,23 +44,27 @@ module _ (s : Machine) (m : List ℕ) where
   pub seven-more : 18446744073709551608 + 7 ≡ 2 ^ 64 - 1
   seven-more = refl
 
-  pub count-609 : s .cycles ≡ 18446744073709551609 → Gives (stepFull s) m (stepped 2 s) m
+  pub count-609 : s .cycles ≡ 18446744073709551609 → Gives (stepFull s) m (refused NoCycleRoom s) m
   count-609 c = step-late s m (omega arith)
+
+  -- A run from there makes no step.
+  pub run-count-609 : (n : ℕ) → n < 1000000 → s .cycles ≡ 18446744073709551609 → Gives (run 65536 (suc n) s) m (ended NoCycleRoom 0 s) m
+  run-count-609 n l c = run-answers 65536 (suc n) s m .1 (ran (refl, l) (no-cycle-room {k = 0} (omega arith) (refl, refl) (omega arith)))
 
   -- A bound of 1,000,000 is run, one of 1,000,001 gives 4.
   pub bound-1000000 : run 65536 1000000 s ≡ runFull 1000000 0 s
   unfolding run
   bound-1000000 = refl
 
-  pub bound-1000001 : Gives (run 65536 1000001 s) m (finished 4 0 s) m
+  pub bound-1000001 : Gives (run 65536 1000001 s) m (ended BoundTooHigh 0 s) m
   unfolding run
   bound-1000001 = refl
 
   -- A bound of 0 on a full memory answers 0 with 0 steps, and reads nothing.
-  pub bound-0 : Gives (run 65536 0 s) m (finished 0 0 s) m
+  pub bound-0 : Gives (run 65536 0 s) m (ended Made 0 s) m
   unfolding run runFull
   bound-0 = refl
 
   pub bound-0-reads : reads (run 65536 0 s) m ≡ []
-  unfolding run runFull reads
+  unfolding run runFull accesses
   bound-0-reads = refl

@@ -20,7 +20,8 @@ use Rattle.manual.specs.declared.Machine.{Machine}
 use Rattle.manual.specs.Micro.{reads}
 use Rattle.manual.specs.Stepping.{fullMemory, highestCount, step}
 use Rattle.manual.specs.ReadList.{is, operands, pointers, reached, listed, listedEntry}
-use Rattle.manual.specs.Theorems.Reads.{suits, entry-suits, step-reads}
+use Rattle.manual.specs.Theorems.Accesses.{suits, entry-suits}
+use Rattle.manual.specs.Theorems.Reads.{step-reads}
 use Rattle.manual.specs.Theorems.Programs.{either}
 
 -- at most so many

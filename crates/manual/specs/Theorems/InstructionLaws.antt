@@ -1,13 +1,13 @@
 -- What an instruction gives, from what its parts give: the laws that the code's proofs cite.
 use Prim.Native.Nat.{ℕ, _+_}
 use mathlib.Core.Path.{_≡_, refl}
-use mathlib.Core.Bool.{true}
+use mathlib.Core.Bool.{Bool, true, false, cond}
 use mathlib.Core.List.{List}
 use borrow.Author.Tests.{eq-eqb, ne-eqb}
 use lib.ListN.{getD, set}
 use Rattle.registers.specs.declared.Registers.{Registers}
 use Rattle.registers.specs.StatusByte.{bit, pushedByte, pulledStatus}
-use Rattle.registers.specs.State.{setA, setPC, setStatus, setI, flags}
+use Rattle.registers.specs.State.{setA, setPC, setStatus, setV, setC, setI, flags}
 use Rattle.instruction.specs.declared.Instruction.the-variants.{Read, Store, Branch, BRK, JMP, JSR, PHA, PHP, PLA, PLP, RTI, RTS}
 use Rattle.instruction.specs.declared.ReadOperation.{ReadOperation}
 use Rattle.instruction.specs.declared.StoreOperation.{StoreOperation}
@@ -15,16 +15,32 @@ use Rattle.instruction.specs.declared.ModifyOperation.{ModifyOperation}
 use Rattle.instruction.specs.declared.BranchOperation.{BranchOperation}
 use Rattle.instruction.specs.declared.AddressingMode.{AddressingMode}
 use Rattle.instruction.specs.Modes.{operandBytes}
+use Rattle.manual.specs.declared.ArithmeticOutput.{ArithmeticOutput}
 use Rattle.manual.specs.declared.Target.{Target}
 use Rattle.manual.specs.Micro.{Gives}
 use Rattle.manual.specs.Words.{low, address, page, joined}
+use Rattle.manual.specs.Flags.{shown}
+use Rattle.manual.specs.Decimal.{decimalShown}
 use Rattle.manual.specs.Branching.{holds, branched}
 use Rattle.manual.specs.Addressing.{operand, target}
 use Rattle.manual.specs.IndexRegisters.{loadA}
 use Rattle.manual.specs.Stack.{push, pull, pushAddress, pullAddress}
 use Rattle.manual.specs.Shifting.{modified, modifiedFlags}
-use Rattle.manual.specs.Instructions.{taken, stored, past, leaves, modify, perform}
+use Rattle.manual.specs.Instructions.{withOutput, taken, stored, advanced, modify, perform}
+use Rattle.manual.specs.Outcomes.{leavesAt, leaves}
 use Rattle.manual.specs.Theorems.Programs.{then}
+
+-- ---- ADC and SBC
+
+-- N and Z show the result in either mode
+either-mode : (decimal : Bool) (b : ℕ) (r : Registers) → cond decimal (decimalShown b r) (shown b r) ≡ shown b r
+either-mode true b r = refl
+either-mode false b r = refl
+
+pub output-loaded : (o : ArithmeticOutput) (r : Registers)
+    → withOutput o r ≡ loadA (o .result) (flags (λ p. setV (o .overflow) (setC (o .carry) p)) r)
+unfolding withOutput
+output-loaded o r = either-mode (r .status .decimal) _ _
 
 -- ---- the stack
 
@@ -41,25 +57,25 @@ pull-address-gives r m {r₁ = r₁} e f = then (pull r) _ m e (then (pull r₁)
 -- ---- where the mode leads
 
 module _ (mode : AddressingMode) (r : Registers) (m : List ℕ) (t : Target) (e : Gives (target mode r) m t m) where
-  pub read-gives : (k : ReadOperation) → Gives (perform (Read k) mode r) m (leaves (taken k (getD m (t .address) 0) (past mode r)) (bit (t .crossed))) m
+  pub read-gives : (k : ReadOperation) → Gives (perform (Read k) mode r) m (leavesAt (t .first) (taken k (getD m (t .address) 0) (advanced mode r)) (bit (t .crossed))) m
   unfolding perform
   read-gives k = then (target mode r) _ m e refl
 
-  pub store-gives : (k : StoreOperation) → Gives (perform (Store k) mode r) m (leaves (past mode r) 0) (set m (t .address) (stored k r))
+  pub store-gives : (k : StoreOperation) → Gives (perform (Store k) mode r) m (leavesAt (t .first) (advanced mode r) 0) (set m (t .address) (stored k r))
   unfolding perform
   store-gives k = then (target mode r) _ m e refl
 
   pub modify-memory-gives : (k : ModifyOperation) → (operandBytes mode ≡ 0 → ⊥)
-      → Gives (modify k mode r) m (leaves (modifiedFlags k (getD m (t .address) 0) (past mode r)) 0)
+      → Gives (modify k mode r) m (leavesAt (t .first) (modifiedFlags k (getD m (t .address) 0) (advanced mode r)) 0)
       (set m (t .address) (modified k (getD m (t .address) 0) (r .status .carry)))
   unfolding modify
   modify-memory-gives k f = simp (ne-eqb _ _ f) (then (target mode r) _ m e refl)
 
-  pub branch-gives : (k : BranchOperation) → Gives (perform (Branch k) mode r) m (branched (holds k (r .status)) t (past mode r)) m
+  pub branch-gives : (k : BranchOperation) → Gives (perform (Branch k) mode r) m (branched (holds k (r .status)) t (advanced mode r)) m
   unfolding perform
   branch-gives k = then (target mode r) _ m e refl
 
-  pub jump-gives : Gives (perform JMP mode r) m (leaves (setPC (t .address) r) 0) m
+  pub jump-gives : Gives (perform JMP mode r) m (leavesAt (t .first) (setPC (t .address) r) 0) m
   unfolding perform
   jump-gives = then (target mode r) _ m e refl
 
@@ -68,12 +84,13 @@ module _ (mode : AddressingMode) (r : Registers) (m : List ℕ) (t : Target) (e 
 module _ (mode : AddressingMode) (r : Registers) (m : List ℕ) where
   pub modify-accumulator-gives : (k : ModifyOperation) → operandBytes mode ≡ 0
       → Gives (modify k mode r) m
-      (leaves (setA (modified k (r .accumulator) (r .status .carry)) (modifiedFlags k (r .accumulator) (past mode r))) 0) m
+      (leaves (setA (modified k (r .accumulator) (r .status .carry)) (modifiedFlags k (r .accumulator) (advanced mode r))) 0) m
   unfolding modify
   modify-accumulator-gives k e = simp (eq-eqb _ _ e)
 
+  -- the high byte is what stands there after the pushes
   pub call-gives : {r₁ : Registers} {m₁ : List ℕ} → Gives (pushAddress (operand r 2) r) m r₁ m₁
-      → Gives (perform JSR mode r) m (leaves (setPC (joined (getD m (operand r 2) 0) (getD m (operand r 1) 0)) r₁) 0) m₁
+      → let goal = joined (getD m₁ (operand r 2) 0) (getD m (operand r 1) 0) in Gives (perform JSR mode r) m (leavesAt goal (setPC goal r₁) 0) m₁
   unfolding perform
   call-gives e = then (pushAddress (operand r 2) r) _ m e refl
 
@@ -83,22 +100,22 @@ module _ (mode : AddressingMode) (r : Registers) (m : List ℕ) where
   return-gives e = then (pullAddress r) _ m e refl
 
   pub push-accumulator-gives : {r₁ : Registers} {m₁ : List ℕ} → Gives (push (r .accumulator) r) m r₁ m₁
-      → Gives (perform PHA mode r) m (leaves (past mode r₁) 0) m₁
+      → Gives (perform PHA mode r) m (leaves (advanced mode r₁) 0) m₁
   unfolding perform
   push-accumulator-gives e = then (push (r .accumulator) r) _ m e refl
 
   pub push-status-gives : {r₁ : Registers} {m₁ : List ℕ} → Gives (push (pushedByte (r .status)) r) m r₁ m₁
-      → Gives (perform PHP mode r) m (leaves (past mode r₁) 0) m₁
+      → Gives (perform PHP mode r) m (leaves (advanced mode r₁) 0) m₁
   unfolding perform
   push-status-gives e = then (push (pushedByte (r .status)) r) _ m e refl
 
   pub pull-accumulator-gives : {b : ℕ} {r₁ : Registers} → Gives (pull r) m (b, r₁) m
-      → Gives (perform PLA mode r) m (leaves (loadA b (past mode r₁)) 0) m
+      → Gives (perform PLA mode r) m (leaves (loadA b (advanced mode r₁)) 0) m
   unfolding perform
   pull-accumulator-gives e = then (pull r) _ m e refl
 
   pub pull-status-gives : {b : ℕ} {r₁ : Registers} → Gives (pull r) m (b, r₁) m
-      → Gives (perform PLP mode r) m (leaves (setStatus (pulledStatus b) (past mode r₁)) 0) m
+      → Gives (perform PLP mode r) m (leaves (setStatus (pulledStatus b) (advanced mode r₁)) 0) m
   unfolding perform
   pull-status-gives e = then (pull r) _ m e refl
 

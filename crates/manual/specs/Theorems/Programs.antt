@@ -6,7 +6,7 @@ use mathlib.Core.Logic.{_⊎_, inl, inr}
 use mathlib.Core.List.{List, [], _∷_, _++_}
 use lib.ListN.{getD, set, length, length-set}
 use lib.Seq.{getD-set-other}
-use Rattle.manual.specs.Micro.{Micro, done, read, write, exec, reads, stores, _>>=_, Gives}
+use Rattle.manual.specs.Micro.{Micro, done, read, write, exec, Access, readAt, storeAt, accesses, readsOf, storesOf, reads, stores, _>>=_, Gives}
 
 infix 30 _∈_
 -- a number stands in a list
@@ -20,21 +20,31 @@ exec-bind (done a) f m = refl
 exec-bind (read q k) f m = exec-bind (k (getD m q 0)) f m
 exec-bind (write q b k) f m = exec-bind k f (set m q b)
 
--- it reads what the first reads and then what the second reads
+-- it reads and stores what the first does and then what the second does
+pub accesses-bind : {A B : Type 0} (p : Micro A) (f : A → Micro B) (m : List ℕ)
+    → accesses (p >>= f) m ≡ accesses p m ++ accesses (f (exec p m .0)) (exec p m .1)
+unfolding accesses
+accesses-bind (done a) f m = refl
+accesses-bind (read q k) f m = ap (λ (l : List Access). readAt q ∷ l) (accesses-bind (k (getD m q 0)) f m)
+accesses-bind (write q b k) f m = ap (λ (l : List Access). storeAt q ∷ l) (accesses-bind k f (set m q b))
+
+pub reads-append : (k l : List Access) → readsOf (k ++ l) ≡ readsOf k ++ readsOf l
+reads-append [] l = refl
+reads-append (readAt p ∷ k) l = ap (λ (t : List ℕ). p ∷ t) (reads-append k l)
+reads-append (storeAt p ∷ k) l = reads-append k l
+
+pub stores-append : (k l : List Access) → storesOf (k ++ l) ≡ storesOf k ++ storesOf l
+stores-append [] l = refl
+stores-append (readAt p ∷ k) l = stores-append k l
+stores-append (storeAt p ∷ k) l = ap (λ (t : List ℕ). p ∷ t) (stores-append k l)
+
 pub reads-bind : {A B : Type 0} (p : Micro A) (f : A → Micro B) (m : List ℕ)
     → reads (p >>= f) m ≡ reads p m ++ reads (f (exec p m .0)) (exec p m .1)
-unfolding reads
-reads-bind (done a) f m = refl
-reads-bind (read q k) f m = ap (λ (l : List ℕ). q ∷ l) (reads-bind (k (getD m q 0)) f m)
-reads-bind (write q b k) f m = reads-bind k f (set m q b)
+reads-bind p f m = ap readsOf (accesses-bind p f m) ∙ reads-append (accesses p m) _
 
--- and it stores to what the first stores to and then what the second stores to
 pub stores-bind : {A B : Type 0} (p : Micro A) (f : A → Micro B) (m : List ℕ)
     → stores (p >>= f) m ≡ stores p m ++ stores (f (exec p m .0)) (exec p m .1)
-unfolding stores
-stores-bind (done a) f m = refl
-stores-bind (read q k) f m = stores-bind (k (getD m q 0)) f m
-stores-bind (write q b k) f m = ap (λ (l : List ℕ). q ∷ l) (stores-bind k f (set m q b))
+stores-bind p f m = ap storesOf (accesses-bind p f m) ∙ stores-append (accesses p m) _
 
 -- what holds of both sides of a test holds of what the test chooses
 pub either : {A : Type 0} (P : A → Type 0) (t : Bool) (a b : A) → P a → P b → P (cond t a b)
@@ -56,7 +66,7 @@ then p f m e g = exec-then p f m e ∙ g
 
 -- a byte that a program does not store to stays
 pub untouched : {A : Type 0} (p : Micro A) (m : List ℕ) (a : ℕ) → (a ∈ stores p m → ⊥) → getD (exec p m .1) a 0 ≡ getD m a 0
-unfolding stores
+unfolding accesses
 untouched (done x) m a f = refl
 untouched (read q k) m a f = untouched (k (getD m q 0)) m a f
 untouched (write q b k) m a f = untouched k (set m q b) a (λ i. f (inr i)) ∙ getD-set-other m q a b 0 (λ e. f (inl e))

@@ -5,7 +5,7 @@ use mathlib.Core.Path.{_≡_, refl}
 use mathlib.Core.Bool.{Bool, true, false, cond}
 use mathlib.Core.List.{List}
 use native.Mathlib.Omega.{arith}
-use lib.Dec.{eqb, leb, ltb, lit≤}
+use lib.Dec.{lit<, eqb, leb, ltb, lit≤}
 use Rattle.registers.specs.declared.Registers.{Registers}
 use Rattle.registers.specs.StatusByte.{pushedByte}
 use Rattle.registers.specs.RoundTrip.{bit-most, pushed-byte}
@@ -29,13 +29,17 @@ use Rattle.manual.specs.Branching.{branchTarget, branched, holds}
 use Rattle.manual.specs.Addressing.{operand, target}
 use Rattle.manual.specs.Stack.{push, pull, pushAddress, pullAddress}
 use Rattle.manual.specs.Instructions.{modify, perform}
-use Rattle.manual.specs.Stepping.{Stepped, Finished, fullMemory, highestCount, highestBound, finished, act, stepFull, step, runFull, run}
-use Rattle.manual.specs.Theorems.Within.{Within, Bytes, within-exec, within-bind, within-weaken}
-use Rattle.manual.specs.Theorems.RegistersInRange.{InRange, in-setA, in-setS, in-setPC, in-setStatus, in-flags, in-past, in-loadA, in-taken, in-stored, in-modified, in-modified-flags, in-internal, in-around}
+use Rattle.manual.specs.declared.Stepped.{Stepped}
+use Rattle.manual.specs.declared.Ended.{Ended}
+use Rattle.manual.specs.declared.Reason.{Reason}
+use Rattle.manual.specs.Outcomes.{isMade, ended}
+use Rattle.manual.specs.Stepping.{fullMemory, highestCount, highestBound, act, stepFull, step, runFull, run}
+use Rattle.manual.specs.Theorems.Within.{Within, Bytes, InMemory, within-exec, within-bind, within-weaken, within-memory}
+use Rattle.manual.specs.Theorems.RegistersInRange.{InRange, in-setA, in-setS, in-setPC, in-setStatus, in-flags, in-advanced, in-loadA, in-taken, in-stored, in-modified, in-modified-flags, in-internal, in-around}
 use Rattle.manual.specs.Theorems.Programs.{either}
 
 abbrev Aimed : Target → Type 0
-Aimed t = t .address < 65536
+Aimed t = (t .address < 65536) × (t .first < 65536)
 
 target-within : (mode : AddressingMode) (r : Registers) → InRange r → Within Aimed (target mode r)
 unfolding target branchTarget
@@ -45,7 +49,7 @@ target-within Immediate r h = omega arith
 target-within ZeroPage r h = (omega arith, λ b l. omega arith)
 target-within ZeroPageX r h = (omega arith, λ b l. omega arith)
 target-within ZeroPageY r h = (omega arith, λ b l. omega arith)
-target-within Relative r h = (omega arith, λ b l. in-around _)
+target-within Relative r h = (omega arith, λ b l. (in-around _, lit< tt))
 target-within Absolute r h = (omega arith, λ b l. (omega arith, λ c k. omega arith))
 target-within AbsoluteX r h = (omega arith, λ b l. (omega arith, λ c k. omega arith))
 target-within AbsoluteY r h = (omega arith, λ b l. (omega arith, λ c k. omega arith))
@@ -76,69 +80,66 @@ pull-address-within r h =
     within-bind (Pulled 256) (Pulled 65536) (pull r) _ (pull-within r h)
     (λ v hv. within-bind (Pulled 256) (Pulled 65536) (pull (v .1)) _ (pull-within (v .1) (hv .1)) (λ w hw. (omega (arith, hv .0, hw .0), hw .1)))
 
--- an effect in range, with at most so many extra cycles
+-- an effect in range, with at most so many extra cycles, and an address that is put out first
 abbrev pub Ranged : ℕ → Effect → Type 0
-Ranged most f = InRange (f .registers) × (f .extra ≤ most)
+Ranged most f = InRange (f .registers) × (f .extra ≤ most) × (f .first < 65536)
 
 branched-within : (t : Bool) (a : Target) (r : Registers) → Aimed a → InRange r → Ranged 2 (branched t a r)
 unfolding branched
-branched-within true a r l h = (in-setPC r h _ l, omega (arith, bit-most (a .crossed)))
-branched-within false a r l h = (h, omega arith)
+branched-within true a r l h = (in-setPC r h _ (l .0), omega (arith, bit-most (a .crossed)), lit< tt)
+branched-within false a r l h = (h, omega arith, lit< tt)
 
 modify-within : (k : ModifyOperation) (mode : AddressingMode) (r : Registers) → InRange r → Within (Ranged 0) (modify k mode r)
 unfolding modify
 modify-within k mode r h =
     either (Within (Ranged 0)) (eqb (operandBytes mode) 0) _ _
-    (in-setA _ (in-modified-flags k _ _ (in-past r h mode)) _ (in-modified k _ _ (h .accumulator)), lit≤ tt)
+    (in-setA _ (in-modified-flags k _ _ (in-advanced r h mode)) _ (in-modified k _ _ (h .accumulator)), lit≤ tt, lit< tt)
     (within-bind Aimed (Ranged 0) (target mode r) _ (target-within mode r h)
-    (λ t l. (l, λ b j. (l, in-modified k b _ j, (in-modified-flags k b _ (in-past r h mode), lit≤ tt)))))
+    (λ t l. (l .0, λ b j. (l .0, in-modified k b _ j, (in-modified-flags k b _ (in-advanced r h mode), lit≤ tt, l .1)))))
 
 perform-within : (i : Instruction) (mode : AddressingMode) (r : Registers) → InRange r → Within (Ranged (mostExtra i)) (perform i mode r)
 unfolding perform
 perform-within (Read k) mode r h =
     within-bind Aimed (Ranged 1) (target mode r) _ (target-within mode r h)
-    (λ t l. (l, λ b j. (in-taken k b _ (in-past r h mode) j, bit-most (t .crossed))))
+    (λ t l. (l .0, λ b j. (in-taken k b _ (in-advanced r h mode) j, bit-most (t .crossed), l .1)))
 perform-within (Store k) mode r h =
     within-bind Aimed (Ranged 0) (target mode r) _ (target-within mode r h)
-    (λ t l. (l, in-stored k r h, (in-past r h mode, lit≤ tt)))
+    (λ t l. (l .0, in-stored k r h, (in-advanced r h mode, lit≤ tt, l .1)))
 perform-within (Modify k) mode r h = modify-within k mode r h
 perform-within (Branch k) mode r h =
     within-bind Aimed (Ranged 2) (target mode r) _ (target-within mode r h)
-    (λ t l. branched-within (holds k (r .status)) t _ l (in-past r h mode))
-perform-within (Internal k) mode r h = (in-internal k _ (in-past r h mode), lit≤ tt)
+    (λ t l. branched-within (holds k (r .status)) t _ l (in-advanced r h mode))
+perform-within (Internal k) mode r h = (in-internal k _ (in-advanced r h mode), lit≤ tt, lit< tt)
 perform-within JMP mode r h =
-    within-bind Aimed (Ranged 0) (target mode r) _ (target-within mode r h) (λ t l. (in-setPC r h _ l, lit≤ tt))
+    within-bind Aimed (Ranged 0) (target mode r) _ (target-within mode r h) (λ t l. (in-setPC r h _ (l .0), lit≤ tt, l .1))
 perform-within JSR mode r h = (
   omega arith,
-  λ b l. (
-    omega arith,
-    λ c k.
-        within-bind InRange (Ranged 0) (pushAddress (operand r 2) r) _ (push-address-within _ r (omega arith) h)
-        (λ r₁ h₁. (in-setPC r₁ h₁ _ (omega arith), lit≤ tt)),
-  ),
+  λ b l.
+      within-bind InRange (Ranged 0) (pushAddress (operand r 2) r) _ (push-address-within _ r (omega arith) h)
+      (λ r₁ h₁. (omega arith, λ c k. (in-setPC r₁ h₁ _ (omega arith), lit≤ tt, omega arith))),
 )
 perform-within RTS mode r h =
     within-bind (Pulled 65536) (Ranged 0) (pullAddress r) _ (pull-address-within r h)
-    (λ w hw. (in-setPC (w .1) (hw .1) _ (omega arith), lit≤ tt))
+    (λ w hw. (in-setPC (w .1) (hw .1) _ (omega arith), lit≤ tt, lit< tt))
 perform-within PHA mode r h =
-    within-bind InRange (Ranged 0) (push (r .accumulator) r) _ (push-within _ r (h .accumulator) h) (λ r₁ h₁. (in-past r₁ h₁ mode, lit≤ tt))
+    within-bind InRange (Ranged 0) (push (r .accumulator) r) _ (push-within _ r (h .accumulator) h) (λ r₁ h₁. (in-advanced r₁ h₁ mode, lit≤ tt, lit< tt))
 perform-within PHP mode r h =
     within-bind InRange (Ranged 0) (push (pushedByte (r .status)) r) _ (push-within _ r (pushed-byte (r .status)) h)
-    (λ r₁ h₁. (in-past r₁ h₁ mode, lit≤ tt))
+    (λ r₁ h₁. (in-advanced r₁ h₁ mode, lit≤ tt, lit< tt))
 perform-within PLA mode r h =
     within-bind (Pulled 256) (Ranged 0) (pull r) _ (pull-within r h)
-    (λ w hw. (in-loadA _ (in-past (w .1) (hw .1) mode) _ (hw .0), lit≤ tt))
+    (λ w hw. (in-loadA _ (in-advanced (w .1) (hw .1) mode) _ (hw .0), lit≤ tt, lit< tt))
 perform-within PLP mode r h =
     within-bind (Pulled 256) (Ranged 0) (pull r) _ (pull-within r h)
-    (λ w hw. (in-setStatus _ (in-past (w .1) (hw .1) mode) _, lit≤ tt))
+    (λ w hw. (in-setStatus _ (in-advanced (w .1) (hw .1) mode) _, lit≤ tt, lit< tt))
 perform-within BRK mode r h =
     within-bind InRange (Ranged 0) (pushAddress (operand r 2) r) _ (push-address-within _ r (omega arith) h)
     (λ r₁ h₁. within-bind InRange (Ranged 0) (push (pushedByte (r .status)) r₁) _ (push-within _ r₁ (pushed-byte (r .status)) h₁)
-    (λ r₂ h₂. (lit≤ tt, λ b l. (lit≤ tt, λ c k. (in-setPC _ (in-flags r₂ h₂ _) _ (omega arith), lit≤ tt)))))
+    (λ r₂ h₂. (lit≤ tt, λ b l. (lit≤ tt, λ c k. (in-setPC _ (in-flags r₂ h₂ _) _ (omega arith), lit≤ tt, lit< tt)))))
 perform-within RTI mode r h =
     within-bind (Pulled 256) (Ranged 0) (pull r) _ (pull-within r h)
     (λ v hv. within-bind (Pulled 65536) (Ranged 0) (pullAddress (v .1)) _ (pull-address-within (v .1) (hv .1))
-    (λ w hw. (in-setPC _ (in-setStatus (w .1) (hw .1) _) _ (hw .0), lit≤ tt)))
+    (λ w hw. (in-setPC _ (in-setStatus (w .1) (hw .1) _) _ (hw .0), lit≤ tt, lit< tt)))
 
 -- ---- a step and a run
 
@@ -148,14 +149,14 @@ pub record Kept (from most : ℕ) (s : Machine) : Type 0 where
   pub cycles : s .cycles ≤ from + most
 
 -- the cycles that a step may add: 7 where it was made, none where it was refused
-abbrev pub allowance : ℕ → ℕ
-allowance answer = cond (eqb answer 0) 7 0
+abbrev pub allowance : Reason → ℕ
+allowance reason = cond (isMade reason) 7 0
 
 abbrev pub StepKept : ℕ → Stepped → Type 0
-StepKept from q = Kept from (allowance (q .answer)) (q .machine)
+StepKept from q = Kept from (allowance (q .reason)) (q .machine) × (q .first < 65536)
 
-unmoved : (from : ℕ) (s : Machine) → InRange (s .registers) → s .cycles ≤ from → Kept from 0 s
-unmoved from s h l = record { registers = h; cycles = omega arith }
+unmoved : (from : ℕ) (s : Machine) → InRange (s .registers) → s .cycles ≤ from → Kept from 0 s × (0 < 65536)
+unmoved from s h l = (record { registers = h; cycles = omega arith }, lit< tt)
 
 act-within : (d : Decoded) (s : Machine) → InRange (s .registers)
     → ((e : Entry) → d ≡ Defined e → Ruled e)
@@ -164,7 +165,7 @@ unfolding act
 act-within (Defined e) s h c =
     within-bind (Ranged (mostExtra (e .instruction))) (StepKept (s .cycles)) (perform (e .instruction) (e .mode) (s .registers)) _
     (perform-within (e .instruction) (e .mode) (s .registers) h)
-    (λ f l. record { registers = l .0; cycles = omega (arith, l .1, c e refl .total-most) })
+    (λ f l. (record { registers = l .0; cycles = omega (arith, l .1, c e refl .total-most) }, l .2))
 act-within Undefined s h c = unmoved (s .cycles) s h (omega arith)
 
 step-full-within : (s : Machine) → InRange (s .registers) → Within (StepKept (s .cycles)) (stepFull s)
@@ -184,7 +185,7 @@ pub step-ranges : (size : ℕ) (s : Machine) (m : List ℕ) → InRange (s .regi
 step-ranges size s m h b = within-exec (StepKept (s .cycles)) (step size s) m (step-within size s h) b
 
 -- registers in range, and at most 7 cycles for each of the steps made after k
-abbrev pub RunKept : ℕ → ℕ → Finished → Type 0
+abbrev pub RunKept : ℕ → ℕ → Ended → Type 0
 RunKept from k q = InRange (q .machine .registers) × (q .machine .cycles + 7 * k ≤ from + 7 * q .steps)
 
 run-full-within : (n k : ℕ) (s : Machine) → InRange (s .registers) → Within (RunKept (s .cycles) k) (runFull n k s)
@@ -192,10 +193,10 @@ unfolding runFull
 run-full-within zero k s h = (h, omega arith)
 run-full-within (suc n) k s h =
     within-bind (StepKept (s .cycles)) (RunKept (s .cycles) k) (stepFull s) _ (step-full-within s h)
-    (λ q l. go (eqb (q .answer) 0) (q .answer) (q .machine) l (run-full-within n (k + 1) (q .machine) (l .registers)))
+    (λ q l. go (isMade (q .reason)) (q .reason) (q .machine) (l .0) (run-full-within n (k + 1) (q .machine) (l .0 .registers)))
   where
-    go : (t : Bool) (a : ℕ) (q : Machine) → Kept (s .cycles) (cond t 7 0) q → Within (RunKept (q .cycles) (k + 1)) (runFull n (k + 1) q)
-        → Within (RunKept (s .cycles) k) (cond t (runFull n (k + 1) q) (done (finished a k q)))
+    go : (t : Bool) (a : Reason) (q : Machine) → Kept (s .cycles) (cond t 7 0) q → Within (RunKept (q .cycles) (k + 1)) (runFull n (k + 1) q)
+        → Within (RunKept (s .cycles) k) (cond t (runFull n (k + 1) q) (done (ended a k q)))
     go true a q l w =
         within-weaken (RunKept (q .cycles) (k + 1)) (RunKept (s .cycles) k) (runFull n (k + 1) q)
         (λ f g. (g .0, omega (arith, g .1, l .cycles)))
@@ -213,3 +214,10 @@ run-within size bound s h =
 pub run-ranges : (size bound : ℕ) (s : Machine) (m : List ℕ) → InRange (s .registers) → Bytes m
     → RunKept (s .cycles) 0 (exec (run size bound s) m .0) × Bytes (exec (run size bound s) m .1)
 run-ranges size bound s m h b = within-exec (RunKept (s .cycles) 0) (run size bound s) m (run-within size bound s h) b
+
+-- Every address that a step reads or stores to is one of the memory's, and so is every one of a run.
+pub step-in-memory : (size : ℕ) (s : Machine) (m : List ℕ) → InRange (s .registers) → Bytes m → InMemory (step size s) m
+step-in-memory size s m h b = within-memory (StepKept (s .cycles)) (step size s) m (step-within size s h) b
+
+pub run-in-memory : (size bound : ℕ) (s : Machine) (m : List ℕ) → InRange (s .registers) → Bytes m → InMemory (run size bound s) m
+run-in-memory size bound s m h b = within-memory (RunKept (s .cycles) 0) (run size bound s) m (run-within size bound s h) b

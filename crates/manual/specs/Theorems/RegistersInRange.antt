@@ -27,8 +27,9 @@ use Rattle.manual.specs.Branching.{compared, tested}
 use Rattle.manual.specs.Addressing.{operand}
 use Rattle.manual.specs.IndexRegisters.{loadA, loadX, loadY, internal}
 use Rattle.manual.specs.Shifting.{modified, modifiedFlags}
-use Rattle.manual.specs.Instructions.{sum, difference, arithmetic, taken, stored, past}
+use Rattle.manual.specs.Instructions.{sum, difference, withOutput, taken, stored, advanced}
 use Rattle.manual.specs.Theorems.Programs.{either}
+use Rattle.manual.specs.Theorems.InstructionLaws.{output-loaded}
 
 -- registers in range
 pub record InRange (r : Registers) : Type 0 where
@@ -71,8 +72,8 @@ module _ (r : Registers) (h : InRange r) where
   unfolding shown
   in-shown b = in-flags _
 
-  pub in-past : (mode : AddressingMode) → InRange (past mode r)
-  in-past mode = in-setPC (operand r (1 + operandBytes mode)) (omega arith)
+  pub in-advanced : (mode : AddressingMode) → InRange (advanced mode r)
+  in-advanced mode = in-setPC (operand r (1 + operandBytes mode)) (omega arith)
 
 module _ (r : Registers) (h : InRange r) (b : ℕ) (l : b < 256) where
   pub in-loadA : InRange (loadA b r)
@@ -92,9 +93,8 @@ pub in-difference : (m : ℕ) (r : Registers) → difference m r .result < 256
 unfolding difference binaryDifference decimalDifference
 in-difference m r = either (λ (o : ArithmeticOutput). o .result < 256) (r .status .decimal) _ _ (omega arith) (omega arith)
 
-pub in-arithmetic : (o : ArithmeticOutput) (r : Registers) → InRange r → o .result < 256 → InRange (arithmetic o r)
-unfolding arithmetic
-in-arithmetic o r h l = in-loadA _ (in-flags r h _) (o .result) l
+pub in-output : (o : ArithmeticOutput) (r : Registers) → InRange r → o .result < 256 → InRange (withOutput o r)
+in-output o r h l = rw (output-loaded o r) (in-loadA _ (in-flags r h _) (o .result) l)
 
 pub in-compared : (register m : ℕ) (r : Registers) → InRange r → InRange (compared register m r)
 unfolding compared
@@ -102,8 +102,8 @@ in-compared register m r h = in-shown _ (in-flags r h _) _
 
 pub in-taken : (k : ReadOperation) (m : ℕ) (r : Registers) → InRange r → m < 256 → InRange (taken k m r)
 unfolding taken tested
-in-taken ADC m r h l = in-arithmetic (sum m r) r h (in-sum m r)
-in-taken SBC m r h l = in-arithmetic (difference m r) r h (in-difference m r)
+in-taken ADC m r h l = in-output (sum m r) r h (in-sum m r)
+in-taken SBC m r h l = in-output (difference m r) r h (in-difference m r)
 in-taken AND m r h l = in-loadA r h _ (omega (arith, and-le-l (r .accumulator) m, h .accumulator))
 in-taken ORA m r h l = in-loadA r h _ (or-lt 8 (r .accumulator) m (h .accumulator) l)
 in-taken EOR m r h l = in-loadA r h _ (xor-lt 8 (r .accumulator) m (h .accumulator) l)

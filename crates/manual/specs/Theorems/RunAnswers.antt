@@ -1,28 +1,49 @@
--- Each line of document 01's answer table, 'given exactly when', for a run: what it leaves behind, and that its count is the number of steps
--- of the definition that it made, at most the bound.
+-- The answer table (docs/RULES.md) for a run: when each answer is given, the steps that are counted with it, and what is left behind.
 use Prim.Native.Nat.{ℕ, zero, suc, _+_, _-_, _≤_, _<_}
 use mathlib.Core.Path.{_≡_, refl, ap, sym, _∙_, subst}
-use mathlib.Core.Logic.{_↔_, _⊎_, ⊎-elim}
+use mathlib.Core.Logic.{_↔_}
 use mathlib.Core.List.{List}
 use native.Mathlib.Omega.{arith}
 use native.Mathlib.Decide.{decLt, ℕ-discrete}
 use Rattle.manual.specs.declared.Machine.{Machine}
+use Rattle.manual.specs.declared.Stepped.{Stepped}
+use Rattle.manual.specs.declared.Ended.{Ended}
+use Rattle.manual.specs.declared.Reason.{Reason}
+use Rattle.manual.specs.declared.Reason.the-variants.{Made, MemoryNotFull, NoCycleRoom, NotAnOpcode, BoundTooHigh}
 use Rattle.manual.specs.Micro.{exec, Gives}
-use Rattle.manual.specs.Stepping.{Stepped, Finished, fullMemory, highestBound, stepped, finished, stepFull, runFull, run}
+use Rattle.manual.specs.Outcomes.{refused, ended}
+use Rattle.manual.specs.Stepping.{fullMemory, highestBound, stepFull, runFull, run}
 use Rattle.manual.specs.Theorems.StepLaws.{step-late, step-undefined, step-defined, run-short, run-long, run-whole, run-end, run-more, run-stop}
 use Rattle.manual.specs.Theorems.Answers.{NoRoom, NoOpcode, Ready, Way, late, undefined, ready, way}
 
--- k steps of the definition, each answered 0, lead from the machine s and the memory m to s′ and m′
-abbrev pub Made : ℕ → Machine → List ℕ → Machine → List ℕ → Type 0
-Made zero s m s′ m′ = (s ≡ s′) × (m ≡ m′)
-Made (suc k) s m s′ m′ = (s₁ : Machine) × (m₁ : List ℕ) × Gives (stepFull s) m (stepped 0 s₁) m₁ × Made k s₁ m₁ s′ m′
+-- k steps of the definition, each of them made, lead from the machine s and the memory m to s′ and m′
+abbrev pub Leads : ℕ → Machine → List ℕ → Machine → List ℕ → Type 0
+Leads zero s m s′ m′ = (s ≡ s′) × (m ≡ m′)
+Leads (suc k) s m s′ m′ =
+    (q : Stepped) × (m₁ : List ℕ) × Gives (stepFull s) m q m₁ × (q .reason ≡ Made) × Leads k (q .machine) m₁ s′ m′
 
--- a state that k steps lead to
-abbrev pub Reached : ℕ → Machine → List ℕ → (Machine → List ℕ → Type 0) → Type 0
-Reached k s m P = (s′ : Machine) × (m′ : List ℕ) × Made k s m s′ m′ × P s′ m′
+-- How a run of n steps ends on a full memory: the answer, the count and the machine, and the memory.
+pub data Ends (n : ℕ) (s : Machine) (m : List ℕ) : Ended → List ℕ → Type 0 where
+  -- 0, with every step made
+  all-made : {s′ : Machine} {m′ : List ℕ} → Leads n s m s′ m′ → Ends n s m (ended Made n s′) m′
+  -- 2 and 3, with fewer: the next one is refused in the state that they lead to
+  no-cycle-room : {k : ℕ} {s′ : Machine} {m′ : List ℕ} → k < n → Leads k s m s′ m′ → NoRoom s′ → Ends n s m (ended NoCycleRoom k s′) m′
+  not-an-opcode : {k : ℕ} {s′ : Machine} {m′ : List ℕ} → k < n → Leads k s m s′ m′ → NoOpcode s′ m′ → Ends n s m (ended NotAnOpcode k s′) m′
+
+-- the memory is full and the bound is allowed
+abbrev pub Allowed : ℕ → ℕ → Type 0
+Allowed size bound = (size ≡ fullMemory) × (bound ≤ highestBound)
+
+-- The table: what a run answers and leaves.
+pub data RunTable (size bound : ℕ) (s : Machine) (m : List ℕ) : Ended → List ℕ → Type 0 where
+  -- 0, 2 and 3
+  ran : {q : Ended} {m′ : List ℕ} → Allowed size bound → Ends bound s m q m′ → RunTable size bound s m q m′
+  -- 1 and 4, with no step made and nothing changed
+  memory-not-full : (size ≡ fullMemory → ⊥) → RunTable size bound s m (ended MemoryNotFull 0 s) m
+  bound-too-high : size ≡ fullMemory → highestBound < bound → RunTable size bound s m (ended BoundTooHigh 0 s) m
 
 -- A run of k + n steps of which the first k are made is the run of the other n, from the state that they lead to.
-pub run-after : (k n j : ℕ) (s : Machine) (m : List ℕ) (s′ : Machine) (m′ : List ℕ) → Made k s m s′ m′
+pub run-after : (k n j : ℕ) (s : Machine) (m : List ℕ) (s′ : Machine) (m′ : List ℕ) → Leads k s m s′ m′
     → exec (runFull (k + n) j s) m ≡ exec (runFull n (j + k) s′) m′
 run-after zero n j s m s′ m′ h =
     let e : 0 + n ≡ n = omega arith in
@@ -31,140 +52,89 @@ run-after zero n j s m s′ m′ h =
 run-after (suc k) n j s m s′ m′ h =
     let e : suc k + n ≡ suc (k + n) = omega arith in
     let f : j + suc k ≡ j + 1 + k = omega arith in
-    rw (e, f) (run-more (k + n) j s m (stepped 0 (h .0)) (h .1) (h .2) refl ∙ run-after k n (j + 1) (h .0) (h .1) s′ m′ (h .3))
+    rw (e, f) (run-more s m (h .0) (h .1) (h .2) (k + n) j (h .3) ∙ run-after k n (j + 1) (h .0 .machine) (h .1) s′ m′ (h .4))
 
--- all its steps made, or stopped by a refusal after k of them
-pub run-all : (n : ℕ) (s : Machine) (m : List ℕ) (s′ : Machine) (m′ : List ℕ) → Made n s m s′ m′ → Gives (runFull n 0 s) m (finished 0 n s′) m′
+-- all steps made, or stopped by a refusal after k of them
+pub run-all : (n : ℕ) (s : Machine) (m : List ℕ) (s′ : Machine) (m′ : List ℕ) → Leads n s m s′ m′ → Gives (runFull n 0 s) m (ended Made n s′) m′
 run-all n s m s′ m′ h =
     let e : n + 0 ≡ n = omega arith in
     let f : 0 + n ≡ n = omega arith in
     ap (λ (x : ℕ). exec (runFull x 0 s) m) (sym e)
     ∙ run-after n 0 0 s m s′ m′ h
     ∙ run-end (0 + n) s′ m′
-    ∙ ap (λ (x : ℕ). (finished 0 x s′, m′)) f
+    ∙ ap (λ (x : ℕ). (ended Made x s′, m′)) f
 
-pub run-stopped : (n k a : ℕ) (s : Machine) (m : List ℕ) (s′ : Machine) (m′ : List ℕ) → k < n → Made k s m s′ m′
-    → Gives (stepFull s′) m′ (stepped (suc a) s′) m′ → Gives (runFull n 0 s) m (finished (suc a) k s′) m′
-run-stopped n k a s m s′ m′ l h g =
+pub run-stopped : (n k : ℕ) (r : Reason) (s : Machine) (m : List ℕ) (s′ : Machine) (m′ : List ℕ) → k < n → Leads k s m s′ m′ → (r ≡ Made → ⊥)
+    → Gives (stepFull s′) m′ (refused r s′) m′ → Gives (runFull n 0 s) m (ended r k s′) m′
+run-stopped n k r s m s′ m′ l h f g =
     let e : k + suc (n - suc k) ≡ n = omega arith in
-    let f : 0 + k ≡ k = omega arith in
+    let z : 0 + k ≡ k = omega arith in
     ap (λ (x : ℕ). exec (runFull x 0 s) m) (sym e)
     ∙ run-after k (suc (n - suc k)) 0 s m s′ m′ h
-    ∙ run-stop (n - suc k) (0 + k) s′ m′ (stepped (suc a) s′) m′ g (λ z. omega arith)
-    ∙ ap (λ (x : ℕ). (finished (suc a) x s′, m′)) f
+    ∙ run-stop s′ m′ (refused r s′) m′ g (n - suc k) (0 + k) f
+    ∙ ap (λ (x : ℕ). (ended r x s′, m′)) z
 
--- the ways of a run on a full memory
-pub data RunWay (n : ℕ) (s : Machine) (m : List ℕ) : Type 0 where
-  all : Reached n s m (λ s′ m′. Unit {0}) → RunWay n s m
-  stopped-late : (k : ℕ) → k < n → Reached k s m (λ s′ m′. NoRoom s′) → RunWay n s m
-  stopped-undefined : (k : ℕ) → k < n → Reached k s m NoOpcode → RunWay n s m
+-- Whatever ends so is what a run on a full memory gives.
+pub ends-run : (n : ℕ) (s : Machine) (m : List ℕ) {q : Ended} {m′ : List ℕ} → Ends n s m q m′ → Gives (runFull n 0 s) m q m′
+ends-run n s m (all-made {s′} {m′} h) = run-all n s m s′ m′ h
+ends-run n s m (no-cycle-room {k} {s′} {m′} l h r) =
+    run-stopped n k NoCycleRoom s m s′ m′ l h (λ p. let z : _≡_ {A = ℕ} 0 1 = cc in omega arith) (step-late s′ m′ r)
+ends-run n s m (not-an-opcode {k} {s′} {m′} l h r) =
+    run-stopped n k NotAnOpcode s m s′ m′ l h (λ p. let z : _≡_ {A = ℕ} 0 1 = cc in omega arith) (step-undefined s′ m′ (r .0) (r .1))
 
-one-more : (n : ℕ) (s : Machine) (m : List ℕ) (s₁ : Machine) (m₁ : List ℕ) → Gives (stepFull s) m (stepped 0 s₁) m₁
-    → RunWay n s₁ m₁ → RunWay (suc n) s m
-one-more n s m s₁ m₁ g (all h) = all (h .0, h .1, (s₁, m₁, g, h .2), tt)
-one-more n s m s₁ m₁ g (stopped-late k l h) = stopped-late (suc k) (omega arith) (h .0, h .1, (s₁, m₁, g, h .2), h .3)
-one-more n s m s₁ m₁ g (stopped-undefined k l h) = stopped-undefined (suc k) (omega arith) (h .0, h .1, (s₁, m₁, g, h .2), h .3)
+-- ---- every run ends so
 
--- a made step, as what it gives
-step-made : (s : Machine) (m : List ℕ) → Ready s m → Gives (stepFull s) m (stepped 0 (exec (stepFull s) m .0 .machine)) (exec (stepFull s) m .1)
-step-made s m h =
-    ap (λ (a : ℕ). (stepped a (exec (stepFull s) m .0 .machine), exec (stepFull s) m .1))
-    (ap (λ (w : Stepped × List ℕ). w .0 .answer) (step-defined s m (h .1 .0) (h .0) (h .1 .1) refl))
+abbrev Ending : ℕ → Machine → List ℕ → Type 0
+Ending n s m = (q : Ended) × (m′ : List ℕ) × Ends n s m q m′
 
-pub run-way : (n : ℕ) (s : Machine) (m : List ℕ) → RunWay n s m
-run-way zero s m = all (s, m, (refl, refl), tt)
-run-way (suc n) s m = go (way s m) (run-way n (exec (stepFull s) m .0 .machine) (exec (stepFull s) m .1))
+module _ (n : ℕ) (s : Machine) (m : List ℕ) (r : Ready s m) where
+  abbrev next : Stepped
+  next = exec (stepFull s) m .0
+
+  -- one step more before those that lead from the next machine
+  led : (k : ℕ) (s′ : Machine) (m′ : List ℕ) → Leads k (next .machine) (exec (stepFull s) m .1) s′ m′ → Leads (suc k) s m s′ m′
+  led k s′ m′ h =
+      (next, exec (stepFull s) m .1, refl, ap (λ (w : Stepped × List ℕ). w .0 .reason) (step-defined s m (r .1 .0) (r .0) (r .1 .1) refl), h)
+
+  one-more : {q : Ended} {m′ : List ℕ} → Ends n (next .machine) (exec (stepFull s) m .1) q m′ → Ending (suc n) s m
+  one-more (all-made h) = (_, _, all-made (led n _ _ h))
+  one-more (no-cycle-room {k} l h f) = (_, _, no-cycle-room {k = suc k} (omega arith) (led k _ _ h) f)
+  one-more (not-an-opcode {k} l h f) = (_, _, not-an-opcode {k = suc k} (omega arith) (led k _ _ h) f)
+
+ending : (n : ℕ) (s : Machine) (m : List ℕ) → Ending n s m
+ending zero s m = (_, _, all-made (refl, refl))
+ending (suc n) s m = go (way s m) (ending n (exec (stepFull s) m .0 .machine) (exec (stepFull s) m .1))
   where
-    go : Way s m → RunWay n (exec (stepFull s) m .0 .machine) (exec (stepFull s) m .1) → RunWay (suc n) s m
-    go (late h) w = stopped-late 0 (omega arith) (s, m, (refl, refl), h)
-    go (undefined h) w = stopped-undefined 0 (omega arith) (s, m, (refl, refl), h)
-    go (ready h) w = one-more n s m _ _ (step-made s m h) w
+    go : Way s m → Ending n (exec (stepFull s) m .0 .machine) (exec (stepFull s) m .1) → Ending (suc n) s m
+    go (late h) w = (_, _, no-cycle-room {k = 0} (omega arith) (refl, refl) h)
+    go (undefined h) w = (_, _, not-an-opcode {k = 0} (omega arith) (refl, refl) h)
+    go (ready h) w = one-more n s m h (w .2)
 
-abbrev pub runAnswer : ℕ → ℕ → Machine → List ℕ → ℕ
-runAnswer size bound s m = exec (run size bound s) m .0 .answer
+-- what a program gives is one thing
+same : {A : Type 0} {w : A × List ℕ} (P : A → List ℕ → Type 0) {q p : A} {m′ m₀ : List ℕ} → w ≡ (p, m₀) → P p m₀ → w ≡ (q, m′) → P q m′
+same P e h g = subst (λ (w : _ × List ℕ). P (w .0) (w .1)) (sym e ∙ g) h
 
--- the memory is full and the bound is allowed
-abbrev pub Allowed : ℕ → ℕ → Type 0
-Allowed size bound = (size ≡ fullMemory) × (bound ≤ highestBound)
+-- A run on a full memory gives what ends so, and nothing else.
+pub run-ends : (n : ℕ) (s : Machine) (m : List ℕ) {q : Ended} {m′ : List ℕ} → Gives (runFull n 0 s) m q m′ → Ends n s m q m′
+run-ends n s m g = let e = ending n s m in same (Ends n s m) (ends-run n s m (e .2)) (e .2) g
 
--- The table for a run.
-pub record RunAnswers (size bound : ℕ) (s : Machine) (m : List ℕ) : Type 0 where
-  pub zero : (runAnswer size bound s m ≡ 0) ↔ (Allowed size bound × Reached bound s m (λ s′ m′. Unit {0}))
-  pub one : (runAnswer size bound s m ≡ 1) ↔ (size ≡ fullMemory → ⊥)
-  pub two : (runAnswer size bound s m ≡ 2) ↔ (Allowed size bound × ((k : ℕ) × (k < bound) × Reached k s m (λ s′ m′. NoRoom s′)))
-  pub three : (runAnswer size bound s m ≡ 3) ↔ (Allowed size bound × ((k : ℕ) × (k < bound) × Reached k s m NoOpcode))
-  pub four : (runAnswer size bound s m ≡ 4) ↔ ((size ≡ fullMemory) × (highestBound < bound))
-  -- the state left is the one after the steps counted (after none, where the answer is 1 or 4)
-  pub made : Made (exec (run size bound s) m .0 .steps) s m (exec (run size bound s) m .0 .machine) (exec (run size bound s) m .1)
-  pub at-most : exec (run size bound s) m .0 .steps ≤ bound
-  pub none : (runAnswer size bound s m ≡ 1) ⊎ (runAnswer size bound s m ≡ 4) → exec (run size bound s) m .0 .steps ≡ 0
+-- A run gives what the table says, and whatever the table says is what the run gives.
+pub run-answers : (size bound : ℕ) (s : Machine) (m : List ℕ) {q : Ended} {m′ : List ℕ}
+    → Gives (run size bound s) m q m′ ↔ RunTable size bound s m q m′
+run-answers size bound s m = (given, gives)
+  where
+    gives : {q : Ended} {m′ : List ℕ} → RunTable size bound s m q m′ → Gives (run size bound s) m q m′
+    gives (ran a h) = rw (run-whole size bound s (a .0) (a .1)) (ends-run bound s m h)
+    gives (memory-not-full f) = run-short size bound s m f
+    gives (bound-too-high e l) = run-long size bound s m e l
 
-module _ (size bound : ℕ) (s : Machine) (m : List ℕ) where
-  on-full : Allowed size bound → {q : Finished} {m′ : List ℕ} → Gives (runFull bound 0 s) m q m′ → Gives (run size bound s) m q m′
-  on-full h g = rw (run-whole size bound s (h .0) (h .1)) g
+    allowed : {q : Ended} {m′ : List ℕ} → size ≡ fullMemory → Dec (highestBound < bound) → Gives (run size bound s) m q m′ → RunTable size bound s m q m′
+    allowed e (yes l) g = same (RunTable size bound s m) (run-long size bound s m e l) (bound-too-high e l) g
+    allowed e (no n) g = ran (e, omega arith) (run-ends bound s m (rw (run-whole size bound s e (omega arith)) at g))
 
-  result : {q : Finished} {m′ : List ℕ} → Gives (run size bound s) m q m′ → runAnswer size bound s m ≡ q .answer
-  result g = ap (λ (w : Finished × List ℕ). w .0 .answer) g
+    memory : {q : Ended} {m′ : List ℕ} → Dec (size ≡ fullMemory) → Gives (run size bound s) m q m′ → RunTable size bound s m q m′
+    memory (yes e) g = allowed e (decLt highestBound bound) g
+    memory (no f) g = same (RunTable size bound s m) (run-short size bound s m f) (memory-not-full f) g
 
-  -- what each line of the table gives
-  gives-zero : (h : Allowed size bound) (x : Reached bound s m (λ s′ m′. Unit {0})) → Gives (run size bound s) m (finished 0 bound (x .0)) (x .1)
-  gives-zero h x = on-full h (run-all bound s m (x .0) (x .1) (x .2))
-
-  gives-two : (h : Allowed size bound) (k : ℕ) → k < bound → (x : Reached k s m (λ s′ m′. NoRoom s′))
-      → Gives (run size bound s) m (finished 2 k (x .0)) (x .1)
-  gives-two h k l x = on-full h (run-stopped bound k 1 s m (x .0) (x .1) l (x .2) (step-late (x .0) (x .1) (x .3)))
-
-  gives-three : (h : Allowed size bound) (k : ℕ) → k < bound → (x : Reached k s m NoOpcode)
-      → Gives (run size bound s) m (finished 3 k (x .0)) (x .1)
-  gives-three h k l x = on-full h (run-stopped bound k 2 s m (x .0) (x .1) l (x .2) (step-undefined (x .0) (x .1) (x .3 .0) (x .3 .1)))
-
-  -- the table from what the run gives: for each answer, why it is given
-  table : (q : Finished) (m′ : List ℕ)
-      → Gives (run size bound s) m q m′
-      → Made (q .steps) s m (q .machine) m′
-      → q .steps ≤ bound
-      → (q .answer ≡ 0 → Allowed size bound × Reached bound s m (λ s′ m′. Unit {0}))
-      → (q .answer ≡ 1 → (size ≡ fullMemory → ⊥) × (q .steps ≡ 0))
-      → (q .answer ≡ 2 → Allowed size bound × ((k : ℕ) × (k < bound) × Reached k s m (λ s′ m′. NoRoom s′)))
-      → (q .answer ≡ 3 → Allowed size bound × ((k : ℕ) × (k < bound) × Reached k s m NoOpcode))
-      → (q .answer ≡ 4 → ((size ≡ fullMemory) × (highestBound < bound)) × (q .steps ≡ 0))
-      → RunAnswers size bound s m
-  table q m′ g h l f₀ f₁ f₂ f₃ f₄ =
-      let a = sym (result g) in
-      let steps = ap (λ (w : Finished × List ℕ). w .0 .steps) g in
-      record {
-        zero = (λ z. f₀ (a ∙ z), λ c. result (gives-zero (c .0) (c .1)));
-        one = (λ z. f₁ (a ∙ z) .0, λ c. result (run-short size bound s m c));
-        two = (λ z. f₂ (a ∙ z), λ c. result (gives-two (c .0) (c .1 .0) (c .1 .1) (c .1 .2)));
-        three = (λ z. f₃ (a ∙ z), λ c. result (gives-three (c .0) (c .1 .0) (c .1 .1) (c .1 .2)));
-        four = (λ z. f₄ (a ∙ z) .0, λ c. result (run-long size bound s m (c .0) (c .1)));
-        made = subst (λ (w : Finished × List ℕ). Made (w .0 .steps) s m (w .0 .machine) (w .1)) (sym g) h;
-        at-most = rw steps l;
-        none = ⊎-elim (λ z. steps ∙ f₁ (a ∙ z) .1) (λ z. steps ∙ f₄ (a ∙ z) .1);
-      }
-
-  by-way : Allowed size bound → RunWay bound s m → RunAnswers size bound s m
-  by-way h (all x) =
-      table (finished 0 bound (x .0)) (x .1) (gives-zero h x) (x .2) (omega arith)
-      (λ z. (h, x)) (λ z. absurd (omega arith)) (λ z. absurd (omega arith)) (λ z. absurd (omega arith)) (λ z. absurd (omega arith))
-  by-way h (stopped-late k l x) =
-      table (finished 2 k (x .0)) (x .1) (gives-two h k l x) (x .2) (omega arith)
-      (λ z. absurd (omega arith)) (λ z. absurd (omega arith)) (λ z. (h, (k, l, x))) (λ z. absurd (omega arith)) (λ z. absurd (omega arith))
-  by-way h (stopped-undefined k l x) =
-      table (finished 3 k (x .0)) (x .1) (gives-three h k l x) (x .2) (omega arith)
-      (λ z. absurd (omega arith)) (λ z. absurd (omega arith)) (λ z. absurd (omega arith)) (λ z. (h, (k, l, x))) (λ z. absurd (omega arith))
-
-  pub run-answers : RunAnswers size bound s m
-  run-answers = memory (ℕ-discrete size fullMemory)
-    where
-      allowed : size ≡ fullMemory → Dec (highestBound < bound) → RunAnswers size bound s m
-      allowed e (yes l) =
-          table (finished 4 0 s) m (run-long size bound s m e l) (refl, refl) (omega arith)
-          (λ z. absurd (omega arith)) (λ z. absurd (omega arith)) (λ z. absurd (omega arith)) (λ z. absurd (omega arith)) (λ z. ((e, l), refl))
-      allowed e (no n) = by-way (e, omega arith) (run-way bound s m)
-
-      memory : Dec (size ≡ fullMemory) → RunAnswers size bound s m
-      memory (yes e) = allowed e (decLt highestBound bound)
-      memory (no f) =
-          table (finished 1 0 s) m (run-short size bound s m f) (refl, refl) (omega arith)
-          (λ z. absurd (omega arith)) (λ z. (f, refl)) (λ z. absurd (omega arith)) (λ z. absurd (omega arith)) (λ z. absurd (omega arith))
+    given : {q : Ended} {m′ : List ℕ} → Gives (run size bound s) m q m′ → RunTable size bound s m q m′
+    given g = memory (ℕ-discrete size fullMemory) g

@@ -1,7 +1,7 @@
 -- Demand 3. Two executions start from the same machine (and, for a run, the same bound) on full memories that differ only at sealed
 -- addresses. If the first reads no sealed address, then both give the same: reason, step count, registers and cycles. Their memories hold
 -- the same bytes elsewhere; a sealed byte that the first stored to is equal in both; any other sealed byte keeps its own starting value.
--- `Sealed` is any predicate on addresses; what the first reads is document 01's list (ReadList). One induction over programs proves it for all.
+-- `Sealed` is any predicate on addresses; what the first reads is the rules' list (ReadList). One induction over programs proves it for all.
 use Prim.Native.Nat.{ℕ, zero, suc}
 use mathlib.Core.Path.{_≡_, refl, ap, sym, _∙_, subst}
 use mathlib.Core.Logic.{inl, inr, ⊎-elim}
@@ -9,11 +9,13 @@ use mathlib.Core.List.{List, [], _∷_}
 use native.Mathlib.Omega.{arith}
 use lib.ListN.{getD, set, length, length-set}
 use Rattle.manual.specs.declared.Machine.{Machine}
-use Rattle.manual.specs.Micro.{Micro, done, read, write, exec, reads, stores, Gives}
-use Rattle.manual.specs.Stepping.{Stepped, Finished, step, run}
-use Rattle.manual.specs.ReadList.{listedStep, listedRun}
+use Rattle.manual.specs.Micro.{Micro, done, read, write, exec, accesses, reads, stores, Gives}
+use Rattle.manual.specs.declared.Stepped.{Stepped}
+use Rattle.manual.specs.declared.Ended.{Ended}
+use Rattle.manual.specs.Stepping.{step, run, longRun}
+use Rattle.manual.specs.ReadList.{listedStep, listedRun, listedLongRun}
 use Rattle.manual.specs.Theorems.Programs.{_∈_, untouched}
-use Rattle.manual.specs.Theorems.Reads.{step-reads, run-reads}
+use Rattle.manual.specs.Theorems.Reads.{step-reads, run-reads, long-run-reads}
 
 -- two full memories that differ only at sealed addresses
 pub record Differ (Sealed : ℕ → Type 0) (m₁ m₂ : List ℕ) : Type 0 where
@@ -33,7 +35,7 @@ pub record Kept (Sealed : ℕ → Type 0) (storedTo m₁ m₂ e₁ e₂ : List �
   pub own₂ : (a : ℕ) → Sealed a → (a ∈ storedTo → ⊥) → getD e₂ a 0 ≡ getD m₂ a 0
 
 -- a store at the same place keeps what agreed, and agrees itself
-agree-set : (m₁ m₂ : List ℕ) (q b a : ℕ) → length m₁ ≡ length m₂ → getD m₁ a 0 ≡ getD m₂ a 0 → getD (set m₁ q b) a 0 ≡ getD (set m₂ q b) a 0
+pub agree-set : (m₁ m₂ : List ℕ) (q b a : ℕ) → length m₁ ≡ length m₂ → getD m₁ a 0 ≡ getD m₂ a 0 → getD (set m₁ q b) a 0 ≡ getD (set m₂ q b) a 0
 agree-set [] [] q b a l e = refl
 agree-set [] (y ∷ ys) q b a l e = absurd (omega arith)
 agree-set (x ∷ xs) [] q b a l e = absurd (omega arith)
@@ -59,7 +61,7 @@ record Shared {A : Type 0} (p₁ : Micro A) (m₁ : List ℕ) (p₂ : Micro A) (
 module _ (Sealed : ℕ → Type 0) where
   shared : {A : Type 0} (p : Micro A) (m₁ m₂ : List ℕ) → length m₁ ≡ length m₂
       → ((a : ℕ) → (Sealed a → ⊥) → getD m₁ a 0 ≡ getD m₂ a 0) → Unsealed Sealed (reads p m₁) → Shared p m₁ p m₂
-  unfolding reads stores
+  unfolding accesses
   shared (done x) m₁ m₂ l s u = record { result = refl; same-stores = refl; kept = λ a e. e; stored = λ a i. absurd i }
   shared (read q k) m₁ m₂ l s u =
       let h : Shared (k (getD m₁ q 0)) m₁ (k (getD m₂ q 0)) m₂ =
@@ -109,7 +111,7 @@ step-sealed Sealed s m₁ m₂ {q₂ = q₂} {e₂ = e₂} d u g₁ g₂ =
     (subst (λ (n : ℕ). Gives (step n s) m₂ q₂ e₂) (d .full₂ ∙ sym (d .full₁)) g₂)
 
 -- demand 3 of a bounded run
-pub run-sealed : (Sealed : ℕ → Type 0) (bound : ℕ) (s : Machine) (m₁ m₂ : List ℕ) {q₁ q₂ : Finished} {e₁ e₂ : List ℕ}
+pub run-sealed : (Sealed : ℕ → Type 0) (bound : ℕ) (s : Machine) (m₁ m₂ : List ℕ) {q₁ q₂ : Ended} {e₁ e₂ : List ℕ}
     → Differ Sealed m₁ m₂
     → Unsealed Sealed (listedRun (length m₁) bound s m₁)
     → Gives (run (length m₁) bound s) m₁ q₁ e₁
@@ -118,3 +120,14 @@ pub run-sealed : (Sealed : ℕ → Type 0) (bound : ℕ) (s : Machine) (m₁ m�
 run-sealed Sealed bound s m₁ m₂ {q₂ = q₂} {e₂ = e₂} d u g₁ g₂ =
     sealed Sealed (run (length m₁) bound s) m₁ m₂ d (subst (Unsealed Sealed) (sym (run-reads (length m₁) bound s m₁)) u) g₁
     (subst (λ (n : ℕ). Gives (run n bound s) m₂ q₂ e₂) (d .full₂ ∙ sym (d .full₁)) g₂)
+
+-- demand 3 of a run of any number of steps
+pub long-run-sealed : (Sealed : ℕ → Type 0) (bound : ℕ) (s : Machine) (m₁ m₂ : List ℕ) {q₁ q₂ : Ended} {e₁ e₂ : List ℕ}
+    → Differ Sealed m₁ m₂
+    → Unsealed Sealed (listedLongRun (length m₁) bound s m₁)
+    → Gives (longRun (length m₁) bound s) m₁ q₁ e₁
+    → Gives (longRun (length m₂) bound s) m₂ q₂ e₂
+    → (q₁ ≡ q₂) × Kept Sealed (stores (longRun (length m₁) bound s) m₁) m₁ m₂ e₁ e₂
+long-run-sealed Sealed bound s m₁ m₂ {q₂ = q₂} {e₂ = e₂} d u g₁ g₂ =
+    sealed Sealed (longRun (length m₁) bound s) m₁ m₂ d (subst (Unsealed Sealed) (sym (long-run-reads (length m₁) bound s m₁)) u) g₁
+    (subst (λ (n : ℕ). Gives (longRun n bound s) m₂ q₂ e₂) (d .full₂ ∙ sym (d .full₁)) g₂)

@@ -1,54 +1,26 @@
--- The addresses that a step stores to, exactly and in order: a store's target, a modified byte's, and what is pushed. One store for each
--- written byte; at most three.
-use Prim.Native.Nat.{ℕ, _+_, _≤_}
-use mathlib.Core.Path.{_≡_, refl, _∙_}
+-- The addresses that a step stores to, exactly and in order; at most three.
+use Prim.Native.Nat.{ℕ, _≤_}
+use mathlib.Core.Path.{_≡_, refl, ap, _∙_}
 use mathlib.Core.Bool.{cond}
-use mathlib.Core.List.{List, [], _∷_, append-nil}
-use native.Mathlib.Omega.{arith}
-use lib.Dec.{eqb, ltb, lit≤}
+use mathlib.Core.List.{List, []}
+use lib.Dec.{T, eqb, ltb, lit≤}
 use lib.ListN.{getD, length}
 use Rattle.registers.specs.declared.Registers.{Registers}
 use Rattle.instruction.specs.declared.Instruction.{Instruction}
 use Rattle.instruction.specs.declared.Instruction.the-variants.{Read, Store, Modify, Branch, Internal, BRK, JMP, JSR, PHA, PHP, PLA, PLP, RTI, RTS}
 use Rattle.instruction.specs.declared.AddressingMode.{AddressingMode}
-use Rattle.instruction.specs.declared.AddressingMode.the-variants.{Accumulator, Implied, Immediate, ZeroPage, ZeroPageX, ZeroPageY, Relative, Absolute, AbsoluteX, AbsoluteY, BuggyIndirect, IndexedIndirectX, IndirectIndexedY}
+use Rattle.instruction.specs.declared.Entry.{Entry}
 use Rattle.instruction.specs.declared.Decoded.{Decoded}
 use Rattle.instruction.specs.declared.Decoded.the-variants.{Defined, Undefined}
 use Rattle.instruction.specs.Modes.{operandBytes}
 use Rattle.instruction.specs.Opcodes.{decoded}
 use Rattle.manual.specs.declared.Machine.{Machine}
-use Rattle.manual.specs.declared.Target.{Target}
-use Rattle.manual.specs.Micro.{Micro, exec, stores, _>>=_}
-use Rattle.manual.specs.Words.{low, joined}
-use Rattle.registers.specs.State.{setS, down}
-use Rattle.manual.specs.Addressing.{target}
-use Rattle.manual.specs.Stack.{push, pull, pushAddress, pullAddress}
-use Rattle.manual.specs.Instructions.{modify, perform}
+use Rattle.manual.specs.Micro.{Micro, accesses, storesOf, stores}
 use Rattle.manual.specs.Stepping.{fullMemory, highestCount, act, stepFull, step}
-use Rattle.manual.specs.Theorems.Programs.{stores-bind, alike, either}
+use Rattle.manual.specs.ReadList.{listed}
+use Rattle.manual.specs.Theorems.Programs.{alike, either}
+use Rattle.manual.specs.Theorems.Accesses.{storedTo, orderOf, suits, entry-suits, act-accesses, stores-in-order}
 use Rattle.manual.specs.Theorems.FewReads.{Few}
-
--- ---- the list
-
--- the address that the mode leads to
-abbrev pub aim : AddressingMode → Registers → List ℕ → ℕ
-aim mode r m = exec (target mode r) m .0 .address
-
-abbrev pub storedTo : Instruction → AddressingMode → Registers → List ℕ → List ℕ
-storedTo (Read k) mode r m = []
-storedTo (Store k) mode r m = aim mode r m ∷ []
-storedTo (Modify k) mode r m = cond (eqb (operandBytes mode) 0) [] (aim mode r m ∷ [])
-storedTo (Branch k) mode r m = []
-storedTo (Internal k) mode r m = []
-storedTo JMP mode r m = []
-storedTo JSR mode r m = joined 1 (r .stack .0) ∷ joined 1 (low (r .stack .0 + 255)) ∷ []
-storedTo RTS mode r m = []
-storedTo RTI mode r m = []
-storedTo PLA mode r m = []
-storedTo PLP mode r m = []
-storedTo PHA mode r m = joined 1 (r .stack .0) ∷ []
-storedTo PHP mode r m = joined 1 (r .stack .0) ∷ []
-storedTo BRK mode r m = joined 1 (r .stack .0) ∷ joined 1 (low (r .stack .0 + 255)) ∷ joined 1 (low (r .stack .0 + 254)) ∷ []
 
 abbrev pub storedByEntry : Decoded → Registers → List ℕ → List ℕ
 storedByEntry (Defined e) r m = storedTo (e .instruction) (e .mode) r m
@@ -61,64 +33,24 @@ storedByStep size s m =
     (cond (ltb highestCount (s .cycles)) [] (storedByEntry (decoded (getD m (s .registers .counter) 0)) (s .registers) m))
     []
 
--- ---- the definition stores to exactly these
-
 -- the program p stores to l
 abbrev StoresTo : {A : Type 0} → List ℕ → Micro A → List ℕ → Type 0
 StoresTo m p l = stores p m ≡ l
 
--- finding a target stores nothing and leaves the memory as it is
-target-stores : {A : Type 0} (mode : AddressingMode) (f : Target → Micro A) (r : Registers) (m : List ℕ)
-    → stores (target mode r >>= f) m ≡ stores (f (exec (target mode r) m .0)) m
-unfolding stores target
-target-stores Accumulator f r m = refl
-target-stores Implied f r m = refl
-target-stores Immediate f r m = refl
-target-stores ZeroPage f r m = refl
-target-stores ZeroPageX f r m = refl
-target-stores ZeroPageY f r m = refl
-target-stores Relative f r m = refl
-target-stores Absolute f r m = refl
-target-stores AbsoluteX f r m = refl
-target-stores AbsoluteY f r m = refl
-target-stores BuggyIndirect f r m = refl
-target-stores IndexedIndirectX f r m = refl
-target-stores IndirectIndexedY f r m = refl
-
-down-down : (n : ℕ) → down (down n) ≡ low (n + 254)
-down-down n = omega arith
-
-perform-stores : (i : Instruction) (mode : AddressingMode) (r : Registers) (m : List ℕ) → stores (perform i mode r) m ≡ storedTo i mode r m
-unfolding stores perform modify push pull pushAddress pullAddress setS
-perform-stores (Read k) mode r m = target-stores mode _ r m
-perform-stores (Store k) mode r m = target-stores mode _ r m
-perform-stores (Modify k) mode r m = alike (StoresTo m) (eqb (operandBytes mode) 0) _ _ _ _ refl (target-stores mode _ r m)
-perform-stores (Branch k) mode r m = target-stores mode _ r m
-perform-stores (Internal k) mode r m = refl
-perform-stores JMP mode r m = target-stores mode _ r m
-perform-stores JSR mode r m = refl
-perform-stores RTS mode r m = refl
-perform-stores RTI mode r m = refl
-perform-stores PLA mode r m = refl
-perform-stores PLP mode r m = refl
-perform-stores PHA mode r m = refl
-perform-stores PHP mode r m = refl
-perform-stores BRK mode r m = simp down-down
-
-act-stores : (d : Decoded) (s : Machine) (m : List ℕ) → stores (act d s) m ≡ storedByEntry d (s .registers) m
-unfolding stores act
-act-stores (Defined e) s m =
-    stores-bind (perform (e .instruction) (e .mode) (s .registers)) _ m
-    ∙ append-nil _
-    ∙ perform-stores (e .instruction) (e .mode) (s .registers) m
-act-stores Undefined s m = refl
+act-stores : (d : Decoded) (s : Machine) (m : List ℕ) → ((e : Entry) → d ≡ Defined e → T (suits (e .instruction) (e .mode)))
+    → stores (act d s) m ≡ storedByEntry d (s .registers) m
+act-stores (Defined e) s m h =
+    ap storesOf (act-accesses (Defined e) s m h)
+    ∙ stores-in-order (orderOf (e .instruction)) (listed (e .instruction) (e .mode) (s .registers) m) (storedTo (e .instruction) (e .mode) (s .registers) m)
+act-stores Undefined s m h = ap storesOf (act-accesses Undefined s m h)
 
 -- A step stores to exactly these addresses, in this order.
 pub step-stores : (size : ℕ) (s : Machine) (m : List ℕ) → stores (step size s) m ≡ storedByStep size s m
-unfolding stores step stepFull
+unfolding accesses step stepFull
 step-stores size s m =
+    let opcode = getD m (s .registers .counter) 0 in
     alike (StoresTo m) (eqb size fullMemory) _ _ _ _
-    (alike (StoresTo m) (ltb highestCount (s .cycles)) _ _ _ _ refl (act-stores (decoded (getD m (s .registers .counter) 0)) s m))
+    (alike (StoresTo m) (ltb highestCount (s .cycles)) _ _ _ _ refl (act-stores (decoded opcode) s m (entry-suits opcode)))
     refl
 
 -- ---- at most three

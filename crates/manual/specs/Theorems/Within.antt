@@ -1,9 +1,12 @@
 -- Programs that stay in range: every address that they read or store to is one of the memory's, every byte that they store is a byte, and
 -- what they are done with has a property, given that what they read are bytes.
 use Prim.Native.Nat.{ℕ, zero, suc, _<_}
+use mathlib.Core.Path.{_≡_}
+use mathlib.Core.Logic.{_⊎_, inl, inr, ⊎-elim}
 use mathlib.Core.List.{List, [], _∷_}
 use lib.ListN.{getD, set}
-use Rattle.manual.specs.Micro.{Micro, done, read, write, exec, _>>=_}
+use Rattle.manual.specs.Micro.{Micro, done, read, write, exec, accesses, reads, stores, _>>=_}
+use Rattle.manual.specs.Theorems.Programs.{_∈_}
 
 abbrev pub Within : {A : Type 0} → (A → Type 0) → Micro A → Type 0
 Within Q (done a) = Q a
@@ -37,3 +40,17 @@ pub within-weaken : {A : Type 0} (P Q : A → Type 0) (p : Micro A) → ((a : A)
 within-weaken P Q (done a) f w = f a w
 within-weaken P Q (read p k) f w = (w .0, λ b l. within-weaken P Q (k b) f (w .1 b l))
 within-weaken P Q (write p b k) f w = (w .0, w .1, within-weaken P Q k f (w .2))
+
+-- every address that such a program reads or stores to is one of the memory's
+abbrev pub InMemory : {A : Type 0} → Micro A → List ℕ → Type 0
+InMemory p m = (a : ℕ) → (a ∈ reads p m) ⊎ (a ∈ stores p m) → a < 65536
+
+pub within-memory : {A : Type 0} (Q : A → Type 0) (p : Micro A) (m : List ℕ) → Within Q p → Bytes m → InMemory p m
+unfolding accesses
+within-memory Q (done a) m w h q i = absurd (⊎-elim (λ x. x) (λ x. x) i)
+within-memory Q (read p k) m w h q i =
+    let rest = within-memory Q (k (getD m p 0)) m (w .1 (getD m p 0) (h p)) h q in
+    ⊎-elim (⊎-elim (λ (e : q ≡ p). rw e (w .0)) (λ x. rest (inl x))) (λ x. rest (inr x)) i
+within-memory Q (write p b k) m w h q i =
+    let rest = within-memory Q k (set m p b) (w .2) (bytes-set m p b h (w .1)) q in
+    ⊎-elim (λ x. rest (inl x)) (⊎-elim (λ (e : q ≡ p). rw e (w .0)) (λ x. rest (inr x))) i

@@ -1,17 +1,19 @@
--- What the run's ending gives back.
-use mathlib.Core.Path.{_∙_}
-use Rattle.mos6502.specs.Laws.{run-gives}
+-- The length and the bound are tested, in that order, before any step.
+use Rattle.mos6502.specs.Laws.{run-short-memory, run-long-bound, run-on-full}
 use borrow.Author.Needs.{needs}
 use Rattle.mos6502.proofs.mos6502_run.Statement.{statement}
 use Rattle.mos6502.proofs.mos6502_run.Tie as tie
 
 returns : tie.Need-returns
-returns c =
-    let c₄ = c .before .before .before .before in
-    let c₇ = c₄ .before .before .before in
-    let c₁₀ = c₇ .before .before .before in
-    run-gives _ _ _ _ _ (rw (← c₄ .ending .ensures, c₁₀ .unpack .ensures) at (c₇ .run .ensures))
-    ∙ rw (c .give-back .ensures)
+returns c = run-short-memory _ _ _ _ _ (c .if1 .taken)
+
+returns-2 : tie.Need-returns-2
+returns-2 c = run-long-bound _ _ _ _ _ (c .before .if1 .left) (c .if2 .taken)
+
+returns-3 : tie.Need-returns-3
+returns-3 c =
+    let c₈ = c .before .before .before .before .before .before .before .before in
+    run-on-full _ _ _ _ _ (c₈ .before .if1 .left) (c₈ .if2 .left) (c .before .before .advance .ensures)
 
 pub mos6502-run-spec : {M : Type 1} → statement M
-mos6502-run-spec = tie.close (tie.spec (search needs) (search needs) (search needs) (search needs) (search needs) returns)
+mos6502-run-spec = tie.close (tie.spec returns returns-2 (search needs) (search needs) returns-3)

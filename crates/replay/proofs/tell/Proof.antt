@@ -28,7 +28,9 @@ returns : tie.Need-returns
 returns c = search needs
 
 returns-2 : tie.Need-returns-2
-returns-2 c = (one-fault (c .before .before .before .before .before .before .before .args .verdict) (c .before .before .before .before .before .before .match .keys2), omega arith)
+returns-2 c =
+    let m = c .before .before .before .before .before .before .before .before in
+    (one-fault (m .before .args .verdict) (m .match .keys2), omega arith)
 
 pub tell-spec : {M : Type 1} → statement M
-tell-spec = tie.close (tie.spec (search needs) returns (search needs) (search needs) (search needs) (search needs) (search needs) (search needs) returns-2)
+tell-spec = tie.close (tie.spec (λ c. omega arith) returns (λ c. omega arith) (λ c κs. tt) (λ c κs. tt) (λ c. omega arith) (λ c κs. tt) (λ c κs. tt) (λ c. omega arith) (λ c κs. tt) returns-2)

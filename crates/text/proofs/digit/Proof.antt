@@ -1,7 +1,7 @@
 -- The constant's bytes are the definition's characters.
 use mathlib.Core.Path.{refl}
+use native.Mathlib.Omega.{arith}
 use Rattle.text.specs.Numerals.{digit}
-use borrow.Author.Needs.{needs}
 use Rattle.text.proofs.digit.Statement.{statement}
 use Rattle.text.proofs.digit.Tie as tie
 
@@ -10,4 +10,4 @@ unfolding digit
 returns c = refl
 
 pub digit-spec : {M : Type 1} → statement M
-digit-spec = tie.close (tie.spec (search needs) returns)
+digit-spec = tie.close (tie.spec (λ c. omega arith) returns)

@@ -16,4 +16,4 @@ returns-3 : tie.Need-returns-3
 returns-3 c = record { fits = omega arith; bytes = sym (set-out _ _ _ (c .before .if1 .left)); ends = omega arith }
 
 pub put-byte-spec : {M : Type 1} → statement M
-put-byte-spec = tie.close (tie.spec (search needs) (search needs) (search needs) (search needs) returns returns-2 returns-3)
+put-byte-spec = tie.close (tie.spec (λ c. omega arith) (λ c. omega arith) (λ c. omega arith) (search needs) returns returns-2 returns-3)

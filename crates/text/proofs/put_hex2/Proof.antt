@@ -1,6 +1,6 @@
 -- One digit after the other.
+use native.Mathlib.Omega.{arith}
 use Rattle.text.specs.Laws.{then}
-use borrow.Author.Needs.{needs}
 use Rattle.text.proofs.put_hex2.Statement.{statement}
 use Rattle.text.proofs.put_hex2.Tie as tie
 
@@ -11,4 +11,4 @@ returns c =
     rw (← c₇ .before .digit .ensures, ← c₂ .before .digit2 .ensures) (then (c₇ .put-byte .ensures) (c₂ .put-byte2 .ensures))
 
 pub put-hex2-spec : {M : Type 1} → statement M
-put-hex2-spec = tie.close (tie.spec (search needs) (search needs) (search needs) (search needs) (search needs) returns)
+put-hex2-spec = tie.close (tie.spec (λ c κs. omega arith) (λ c κs. tt) (λ c κs. omega arith) (λ c κs. tt) (λ c. omega arith) returns)

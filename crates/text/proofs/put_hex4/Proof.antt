@@ -1,6 +1,6 @@
 -- The high byte, then the low one.
+use native.Mathlib.Omega.{arith}
 use Rattle.text.specs.Laws.{then}
-use borrow.Author.Needs.{needs}
 use Rattle.text.proofs.put_hex4.Statement.{statement}
 use Rattle.text.proofs.put_hex4.Tie as tie
 
@@ -10,4 +10,4 @@ returns c =
     then (c₂ .before .before .before .before .put-hex2 .ensures) (c₂ .put-hex22 .ensures)
 
 pub put-hex4-spec : {M : Type 1} → statement M
-put-hex4-spec = tie.close (tie.spec (search needs) (search needs) (search needs) (search needs) (search needs) returns)
+put-hex4-spec = tie.close (tie.spec (λ c. omega arith) (λ c κs. tt) (λ c. omega arith) (λ c κs. tt) (λ c. omega arith) returns)

@@ -5,7 +5,6 @@ use native.Mathlib.Omega.{arith}
 use lib.ListN.{length, take}
 use Rattle.text.specs.Written.{Wrote}
 use Rattle.text.specs.Laws.{nothing, more, whole}
-use borrow.Author.Needs.{needs}
 use Rattle.text.proofs.put_text.Statement.{statement}
 use Rattle.text.proofs.put_text.Tie as tie
 
@@ -31,4 +30,4 @@ returns : tie.Need-returns Inv-loop μ-loop
 returns c = whole _ (c .before .loop .i) (omega arith) (c .before .loop .inv .2)
 
 pub put-text-spec : {M : Type 1} → statement M
-put-text-spec = tie.close (tie.spec Inv-loop μ-loop loop-holds (search needs) (search needs) (search needs) (omega arith) loop-again same-length returns)
+put-text-spec = tie.close (tie.spec Inv-loop μ-loop loop-holds (λ c. omega arith) (λ c κs. tt) (λ c. omega arith) (omega arith) loop-again same-length returns)

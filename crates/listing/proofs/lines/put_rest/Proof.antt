@@ -7,7 +7,6 @@ use Rattle.text.specs.Written.{most}
 use Rattle.text.specs.Left.{Left, less-left, none-left}
 use Rattle.listing.specs.Lines.{unknown, texts}
 use Rattle.listing.specs.Laws.{next-unknown, none-unknown}
-use borrow.Author.Needs.{needs}
 use Rattle.listing.proofs.lines.put_rest.Statement.{statement}
 use Rattle.listing.proofs.lines.put_rest.Tie as tie
 
@@ -40,4 +39,4 @@ returns c =
     none-left (h .inv .3) (none-unknown _ (h .address) _ (omega arith)) (omega arith) (h .inv .2)
 
 pub put-rest-spec : {M : Type 1} → statement M
-put-rest-spec = tie.close (tie.spec Inv-loop μ-loop loop-holds (search needs) (search needs) (omega arith) loop-again same-length returns)
+put-rest-spec = tie.close (tie.spec Inv-loop μ-loop loop-holds (λ c. omega arith) (λ c κs. omega arith) (λ c. omega arith) (omega arith) loop-again same-length returns)

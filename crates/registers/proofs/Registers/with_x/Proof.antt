@@ -1,12 +1,12 @@
--- The literal is the one of `setX`.
-use mathlib.Core.Path.{refl}
+-- What `setX` does not replace is the same.
+use borrow.Author.Needs.{needs}
 use Rattle.registers.specs.State.{setX}
 use Rattle.registers.proofs.Registers.with_x.Statement.{statement}
 use Rattle.registers.proofs.Registers.with_x.Tie as tie
 
 returns : tie.Need-returns
 unfolding setX
-returns c = refl
+returns c = rw (c .kept-apart .ensures)
 
 pub with-x-spec : {M : Type 1} → statement M
-with-x-spec = tie.close (tie.spec returns)
+with-x-spec = tie.close (tie.spec (search needs) returns)

@@ -3,7 +3,6 @@ use Prim.Native.Nat.{_≤_, _-_}
 use mathlib.Core.Path.{_≡_, refl}
 use native.Mathlib.Omega.{arith}
 use lib.ListN.{length, length-set, take, replicate}
-use borrow.Author.Needs.{needs}
 use Rattle.replay.specs.Laws.{clear-more, cleared}
 use Rattle.replay.proofs.line.clear.Statement.{statement}
 use Rattle.replay.proofs.line.clear.Tie as tie
@@ -34,4 +33,4 @@ returns : tie.Need-returns Inv-loop μ-loop
 returns c = cleared (c .before .loop .memory) (c .before .loop .i) _ (omega arith) (c .before .loop .inv .1) (c .before .loop .inv .0) (c .before .loop .inv .2)
 
 pub clear-spec : {M : Type 1} → statement M
-clear-spec = tie.close (tie.spec Inv-loop μ-loop loop-holds (search needs) (search needs) loop-less loop-again same-length returns)
+clear-spec = tie.close (tie.spec Inv-loop μ-loop loop-holds (λ c. omega arith) (λ c. omega arith) loop-less loop-again same-length returns)

@@ -1,6 +1,5 @@
 -- Each part is the definition's, in the order in which they are read; both memories start as zeros.
 use native.Mathlib.Omega.{arith}
-use borrow.Author.Needs.{needs}
 use Rattle.replay.specs.Laws.{zeroed, line-read}
 use Rattle.replay.proofs.line.read_line.Statement.{statement}
 use Rattle.replay.proofs.line.read_line.Tie as tie
@@ -30,4 +29,4 @@ returns c =
     (c .read-end .ensures)
 
 pub read-line-spec : {M : Type 1} → statement M
-read-line-spec = tie.close (tie.spec (search needs) (search needs) (search needs) (search needs) (search needs) (search needs) (search needs) (search needs) (search needs) (search needs) (search needs) (search needs) (search needs) (search needs) same-length same-length-2 returns)
+read-line-spec = tie.close (tie.spec (λ c κs. tt) (λ c κs. tt) (λ c κs. tt) (λ c κs. tt) (λ c κs. tt) (λ c κs. tt) (λ c κs. tt) (λ c κs. tt) (λ c κs. tt) (λ c κs. tt) (λ c κs. tt) (λ c κs. tt) (λ c κs. tt) (λ c κs. tt) same-length same-length-2 returns)

@@ -1,5 +1,5 @@
 -- The two tests pick the case of the definition.
-use borrow.Author.Needs.{needs}
+use native.Mathlib.Omega.{arith}
 use borrow.Author.Tests.{eq-eqb, ne-eqb}
 use Rattle.replay.specs.Verdicts.{lineVerdict, verdictOn}
 use Rattle.replay.proofs.line.replay_line.Statement.{statement}
@@ -31,4 +31,4 @@ returns-3 c =
     )
 
 pub replay-line-spec : {M : Type 1} → statement M
-replay-line-spec = tie.close (tie.spec (search needs) (search needs) (search needs) returns (search needs) (search needs) (search needs) (search needs) returns-2 (search needs) (search needs) returns-3)
+replay-line-spec = tie.close (tie.spec (λ c κs. omega arith) (λ c. omega arith) (λ c. omega arith) returns (λ c κs. tt) (λ c κs. tt) (λ c. omega arith) (λ c. omega arith) returns-2 (λ c. omega arith) (λ c. omega arith) returns-3)

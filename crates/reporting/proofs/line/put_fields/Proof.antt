@@ -1,6 +1,5 @@
 -- One field after the other; none is longer than its number can be.
 use native.Mathlib.Omega.{arith}
-use Rattle.cpu.specs.Answers.{endingResult}
 use Rattle.text.specs.Laws.{then}
 use Rattle.reporting.specs.Report.{allFields}
 use Rattle.reporting.specs.Laws.{fields-fit}
@@ -17,9 +16,9 @@ returns c =
     let c₁₄ = c₁₀ .before .before .before .before in
     let c₁₈ = c₁₄ .before .before .before .before in
     let s = c₁₈ .before .before .before .before .before in
-    let counted = then (c₁₈ .put-decimal .ensures) (c₁₄ .put-spaced-decimal .ensures) in
+    let counted = then (rw (c₁₈ .before .number .ensures) at (c₁₈ .put-decimal .ensures)) (c₁₄ .put-spaced-decimal .ensures) in
     let wrote = then (then counted (then (c₁₀ .put-byte .ensures) (c₆ .put-machine .ensures))) (c₂ .put-byte2 .ensures) in
-    (wrote, omega (arith, wrote .ends, fields-fit (endingResult (s .args .ending)) (omega (arith, s)) (omega (arith, s)) (omega (arith, s))))
+    (wrote, omega (arith, wrote .ends, fields-fit (s .args .ended) (omega (arith, s)) (omega (arith, s))))
 
 pub put-fields-spec : {M : Type 1} → statement M
-put-fields-spec = tie.close (tie.spec (search needs) (search needs) (search needs) (search needs) (search needs) (search needs) (search needs) returns)
+put-fields-spec = tie.close (tie.spec (search needs) (search needs) (search needs) (search needs) (search needs) (search needs) (search needs) (search needs) returns)

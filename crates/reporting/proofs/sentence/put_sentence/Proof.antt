@@ -1,5 +1,4 @@
--- By cases of the answer.
-use native.Mathlib.Omega.{arith}
+-- By whether the goal was reached; the byte at the counter is the one that the run left.
 use Rattle.reporting.specs.Sentence.{sentence}
 use borrow.Author.Needs.{needs}
 use Rattle.reporting.proofs.sentence.put_sentence.Statement.{statement}
@@ -9,36 +8,15 @@ returns : tie.Need-returns
 unfolding sentence
 returns c =
     let c₂ = c .before .before in
-    let wrote = c₂ .put-text .ensures in
-    rw (c₂ .before .before .before .enum-told .given .1) (wrote, omega (arith, wrote .ends))
+    let c₄ = c₂ .before .before in
+    rw (← c₄ .before .reached .ensures, c₄ .if1 .taken) (c₂ .put-done .ensures)
 
 returns-2 : tie.Need-returns-2
 unfolding sentence
 returns-2 c =
     let c₂ = c .before .before in
-    let wrote = c₂ .put-text2 .ensures in
-    rw (c₂ .before .before .before .enum-told2 .given .1) (wrote, omega (arith, wrote .ends))
-
-returns-3 : tie.Need-returns-3
-unfolding sentence
-returns-3 c =
-    let c₂ = c .before .before in
-    let wrote = c₂ .put-text3 .ensures in
-    rw (c₂ .before .before .before .enum-told3 .given .1) (wrote, omega (arith, wrote .ends))
-
-returns-4 : tie.Need-returns-4
-unfolding sentence
-returns-4 c =
-    let c₂ = c .before .before in
-    let wrote = rw (c₂ .before .peek .ensures) at (c₂ .put-stop .ensures) in
-    rw (c₂ .before .before .before .before .answer .given .1) (wrote, omega (arith, wrote .ends))
-
-returns-5 : tie.Need-returns-5
-unfolding sentence
-returns-5 c =
-    let c₂ = c .before .before in
-    let wrote = c₂ .put-text4 .ensures in
-    rw (c₂ .before .before .before .enum-told4 .given .1) (wrote, omega (arith, wrote .ends))
+    let c₅ = c₂ .before .before .before in
+    rw (← c₅ .before .reached .ensures, c₅ .if1 .left) (rw (c₂ .before .before .peek .ensures) at (c₂ .put-meaning .ensures))
 
 pub put-sentence-spec : {M : Type 1} → statement M
-put-sentence-spec = tie.close (tie.spec (search needs) (search needs) (search needs) (search needs) (search needs) (search needs) (search needs) (search needs) (search needs) (search needs) (search needs) (search needs) (search needs) (search needs) (search needs) (search needs) returns (search needs) returns-2 (search needs) returns-3 (search needs) returns-4 (search needs) returns-5)
+put-sentence-spec = tie.close (tie.spec (search needs) (search needs) (search needs) returns (search needs) (search needs) (search needs) returns-2)

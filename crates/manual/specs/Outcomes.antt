@@ -1,0 +1,52 @@
+-- What an instruction, a step and a run leave, and the answer number of each reason (docs/RULES.md).
+use Prim.Native.Nat.{ℕ, _+_}
+use mathlib.Core.Bool.{Bool, true, false}
+use Rattle.registers.specs.declared.Registers.{Registers}
+use Rattle.manual.specs.declared.Machine.{Machine}
+use Rattle.manual.specs.declared.Effect.{Effect}
+use Rattle.manual.specs.declared.Stepped.{Stepped}
+use Rattle.manual.specs.declared.Ended.{Ended}
+use Rattle.manual.specs.declared.Reason.{Reason}
+use Rattle.manual.specs.declared.Reason.the-variants.{Made, MemoryNotFull, NoCycleRoom, NotAnOpcode, BoundTooHigh}
+
+-- the address that an instruction put out first, the registers, and the cycles beyond the base
+abbrev pub leavesAt : ℕ → Registers → ℕ → Effect
+leavesAt first r extra = record { registers = r; extra = extra; first = first }
+
+-- where the mode has no address: 0000
+abbrev pub leaves : Registers → ℕ → Effect
+leaves r extra = leavesAt 0 r extra
+
+abbrev pub machineOf : Registers → ℕ → Machine
+machineOf r cycles = record { registers = r; cycles = cycles }
+
+-- 0: the step, or every step of the run, was made
+-- 1: the lent memory is not 65,536 bytes long
+-- 2: the cycle count leaves no room for another step
+-- 3: the byte at the counter is no documented opcode
+-- 4: the run's bound is above 1,000,000
+abbrev pub number : Reason → ℕ
+number Made = 0
+number MemoryNotFull = 1
+number NoCycleRoom = 2
+number NotAnOpcode = 3
+number BoundTooHigh = 4
+
+abbrev pub isMade : Reason → Bool
+isMade Made = true
+isMade MemoryNotFull = false
+isMade NoCycleRoom = false
+isMade NotAnOpcode = false
+isMade BoundTooHigh = false
+
+-- what a step answers, the address that it put out first, and the machine that it leaves
+abbrev pub stepped : Reason → ℕ → Machine → Stepped
+stepped reason first s = record { reason = reason; first = first; machine = s }
+
+-- in a refusal there is none: 0000
+abbrev pub refused : Reason → Machine → Stepped
+refused reason s = stepped reason 0 s
+
+-- what a run answers, the steps that it made, and the machine that they leave
+abbrev pub ended : Reason → ℕ → Machine → Ended
+ended reason steps s = record { reason = reason; steps = steps; machine = s }
