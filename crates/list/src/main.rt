@@ -1,15 +1,31 @@
 // Prints a listing of an image from a first to a last address: each instruction with its address and bytes.
 //
-// list FIRST LAST: four hexadecimal digits each, in capitals. The image is standard input. What the listing says is promised
-// by the crate listing; here it is only read and written.
+// run list FIRST LAST [IMAGE]
+//
+// An address is four capital hexadecimal digits. The image is a file of 65,536 bytes, or standard input where it is `-` or
+// none is named. A listing that is refused is not begun; a sentence on standard error says why, with the image's name before
+// it.
+//
+// Exit status: 0 the listing was written; 1 the image is not 65,536 bytes long; 9 FIRST is above LAST; 10 the listing has
+// more than 262,144 characters; 64 wrong usage, 66 the image cannot be opened, 74 reading or writing failed.
+//
+// What the listing says is promised by the crate listing; here it is only read and written.
 ghost use mathlib.Core.Path.{_≡_};
 ghost use lib.ListN.{length};
-use libc::STDERR_FILENO;
-use libc::STDIN_FILENO;
-use libc::STDOUT_FILENO;
+use console::address_argument;
+use console::hand_over;
+use console::has_option;
+use console::read_input;
+use console::refuse;
+use console::say_of;
+use console::write_output;
 use listing::list;
 use memory::image_buffer;
-use vectors::read_word;
+use reading::NOWHERE;
+use statuses::FAILED;
+
+// The argument that names the image.
+const IMAGE: usize = 3;
 
 // Room for the listing of 18,724 bytes and, where not all of them are lines of their own, of more.
 fn text_buffer() -> [u8; 262144]
@@ -21,57 +37,54 @@ fn text_buffer() -> [u8; 262144]
 // What the answer means, where nothing was listed.
 fn explain(answer: u8) {
     if answer == 1 {
-        io::write_all(STDERR_FILENO, b"list: the image is not 65536 bytes long\n");
+        say_of(IMAGE, b"refused: the image is not 65536 bytes long\n");
     }
     if answer == 9 {
-        io::write_all(
-            STDERR_FILENO,
-            b"list: the first address is above the last\n",
-        );
+        say_of(IMAGE, b"refused: the first address is above the last\n");
     }
     if answer == 10 {
-        io::write_all(
-            STDERR_FILENO,
-            b"list: that is more than 262144 characters; list it in parts\n",
+        say_of(
+            IMAGE,
+            b"refused: that is more than 262144 characters; list it in parts\n",
         );
     }
 }
 
-fn list_image(first: u16, last: u16) {
-    let mut image = image_buffer();
-    let size = io::read_full(STDIN_FILENO, &mut image);
+fn list_image(first: u16, last: u16, image: &[u8]) -> u8 {
     let mut text = text_buffer();
-    let listed = list(&image[..size], first, last, &mut text);
-    let length = listed.size;
-    if !io::write_all(STDOUT_FILENO, &text[..length]) {
-        os::fail(b"standard output");
+    let delivery = list(image, first, last, &mut text);
+    let length = delivery.size;
+    explain(delivery.answer);
+    if write_output(&text[..length]) {
+        return delivery.answer;
     }
-    explain(listed.answer);
+    FAILED
 }
 
-// An argument as an address; 65536 where it is none.
-fn address_argument(index: usize) -> u32 {
-    let mut digits = io::buffer();
-    let length = os::arg(index, &mut digits);
-    if os::errno() != 0 {
-        return 65536;
+fn list_input(first: u16, last: u16) -> u8 {
+    let mut image = image_buffer();
+    let input = read_input(IMAGE, &mut image);
+    if input.status != 0 {
+        return input.status;
     }
-    let word = read_word(&digits[..length], 0);
-    if word.next != length {
-        return 65536;
+    let size = input.size;
+    list_image(first, last, &image[..size])
+}
+
+fn list_by_arguments() -> u8 {
+    let first = address_argument(1);
+    let last = address_argument(2);
+    if first.next == NOWHERE || last.next == NOWHERE {
+        return refuse(
+            b"list: give two addresses, the first and the last, as four capital hexadecimal digits each\n",
+        );
     }
-    word.value as u32
+    if IMAGE + 1 < os::arg_count() || has_option(IMAGE) {
+        return refuse(b"list: after the two addresses comes one image; ./run list --help\n");
+    }
+    list_input(first.value, last.value)
 }
 
 fn main() {
-    let first = address_argument(1);
-    let last = address_argument(2);
-    if os::arg_count() != 3 || 65535 < first || 65535 < last {
-        io::write_all(
-            STDERR_FILENO,
-            b"list: give two addresses, the first and the last, as four capital hexadecimal digits each\n",
-        );
-        return;
-    }
-    list_image(first as u16, last as u16);
+    hand_over(list_by_arguments());
 }

@@ -6,8 +6,8 @@ use borrow.Author.Needs.{needs}
 use Rattle.report.proofs.report_image.Statement.{statement}
 use Rattle.report.proofs.report_image.Tie as tie
 
-slice-aggregate-write-all : tie.Need-slice-aggregate-write-all
-slice-aggregate-write-all c = sym (length-take-le _ _ (omega (arith, c .before .before .before .before .report .ensures .1 .1)))
+slice-aggregate-write-output : tie.Need-slice-aggregate-write-output
+slice-aggregate-write-output c = sym (length-take-le _ _ (omega (arith, c .before .before .before .before .before .report .ensures .1 .1)))
 
 pub report-image-spec : {M : Type 1} → statement M
-report-image-spec = tie.close (tie.spec (search needs) (search needs) (search needs) slice-aggregate-write-all (search needs) (search needs) (search needs) (search needs) (search needs) (search needs) (search needs) (search needs) (search needs))
+report-image-spec = tie.close (tie.spec (search needs) (search needs) (search needs) slice-aggregate-write-output (search needs) (search needs) (search needs) (search needs) (search needs) (search needs))

@@ -1,0 +1,15 @@
+// The end of a program that ran an image: the sentence about it, and its status.
+use console::say_of;
+use manual::Ended;
+use reporting::put_sentence;
+use statuses::Goal;
+use statuses::end_status;
+
+// Says how the run of the image that an argument names ended, and answers the status. `image` is the one that the run left.
+pub fn say_ending(index: usize, goal: Goal, ended: Ended, image: &[u8]) -> u8 {
+    // 80 is the most that a sentence can have: see `put_sentence`.
+    let mut text = [0u8; 80];
+    let size = put_sentence(&mut text, 0, goal, ended, image);
+    say_of(index, &text[..size]);
+    end_status(goal, ended)
+}

@@ -1,0 +1,45 @@
+-- When a status is 0: only where what was asked for is done.
+use Prim.Native.Nat.{ℕ}
+use mathlib.Core.Path.{_≡_, refl}
+use mathlib.Core.Bool.{Bool, true, false, cond}
+use mathlib.Core.List.{List, [], _∷_}
+use native.Mathlib.Omega.{arith}
+use lib.Dec.{eqb}
+use borrow.Author.Tests.{eqb-true, eqb-false, ne-eqb}
+use Rattle.manual.specs.declared.Ended.{Ended}
+use Rattle.manual.specs.Outcomes.{number}
+use Rattle.statuses.specs.declared.Goal.{Goal}
+use Rattle.statuses.specs.declared.Goal.the-variants.{At}
+use Rattle.statuses.specs.Statuses.{reached, endStatus, firstOf}
+
+module _ (goal : Goal) (q : Ended) where
+  by-goal : (t u : Bool) → reached goal q ≡ t → eqb (number (q .reason)) 0 ≡ u → endStatus goal q ≡ 0 → reached goal q ≡ true
+  unfolding endStatus
+  by-goal true u e f h = e
+  by-goal false true e f h = absurd (omega (arith, rw (e, f) at h))
+  by-goal false false e f h = absurd (eqb-false (number (q .reason)) 0 f (rw (e, f) at h))
+
+  -- A run's status is 0 only where it ended as it was meant to.
+  pub only-where-reached : endStatus goal q ≡ 0 → reached goal q ≡ true
+  only-where-reached = by-goal (reached goal q) (eqb (number (q .reason)) 0) refl refl
+
+-- With an address: it met a byte that is no opcode, and there.
+pub only-at : (address : ℕ) (q : Ended) → endStatus (At address) q ≡ 0 → (number (q .reason) ≡ 3) × (q .machine .registers .counter ≡ address)
+unfolding reached
+only-at address q h = by-tests (eqb (number (q .reason)) 3) (eqb (q .machine .registers .counter) address) refl refl (only-where-reached (At address) q h)
+  where
+    by-tests : (t u : Bool) → eqb (number (q .reason)) 3 ≡ t → eqb (q .machine .registers .counter) address ≡ u → reached (At address) q ≡ true
+        → (number (q .reason) ≡ 3) × (q .machine .registers .counter ≡ address)
+    by-tests true true e f g = (eqb-true (number (q .reason)) 3 e, eqb-true (q .machine .registers .counter) address f)
+    by-tests true false e f g = let z : false ≡ true = rw (e, f) at g in absurd (let y : _≡_ {A = ℕ} 0 1 = cc in omega arith)
+    by-tests false u e f g = let z : false ≡ true = rw e at g in absurd (let y : _≡_ {A = ℕ} 0 1 = cc in omega arith)
+
+-- what a program that works through a list hands over
+abbrev pub firstOfAll : ℕ → List ℕ → ℕ
+firstOfAll before [] = before
+firstOfAll before (now ∷ later) = firstOfAll (firstOf before now) later
+
+-- A status that is not 0 stays, whatever comes later.
+pub kept : (before : ℕ) (later : List ℕ) → (before ≡ 0 → ⊥) → firstOfAll before later ≡ before
+kept before [] h = refl
+kept before (now ∷ later) h = rw (ne-eqb before 0 h) (kept before later h)
