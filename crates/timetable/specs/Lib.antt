@@ -1,0 +1,3 @@
+pub mod Timetable
+pub mod Laws
+pub mod Theorems
