@@ -1,0 +1,6 @@
+pub mod Answers
+pub mod Sentence
+pub mod Lengths
+pub mod Formats
+pub mod Following
+pub mod Going

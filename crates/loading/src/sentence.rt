@@ -1,0 +1,64 @@
+// What a reader found, in words.
+ghost use Prim.Native.Nat.{_+_, _≤_};
+ghost use Rattle.text.specs.Written.{Wrote};
+ghost use Rattle.loading.specs.Sentence.{reason, goodSentence, badSentence, sentence};
+use crate::Verdict;
+use text::put_decimal;
+use text::put_text;
+
+// Why a text is bad.
+fn put_reason(out: &mut [u8], at: usize, answer: u8) -> usize
+    ensures { λ r. ⌜ Wrote (now (out .entry)) at (reason answer) (now (out .exit)) r ⌝ }
+    ensures { λ r. ⌜ r ≤ at + 42 ⌝ }
+{
+    if answer == 5 {
+        return put_text(out, at, b"malformed, cut short or a stray character\n");
+    }
+    if answer == 6 {
+        return put_text(out, at, b"a wrong sum\n");
+    }
+    if answer == 7 {
+        return put_text(out, at, b"past FFFF\n");
+    }
+    put_text(out, at, b"no end record, or a wrong number in it\n")
+}
+
+fn put_good(out: &mut [u8], at: usize, good: u64) -> usize
+    ensures { λ r. ⌜ Wrote (now (out .entry)) at (goodSentence good) (now (out .exit)) r ⌝ }
+    ensures { λ r. ⌜ r ≤ at + 128 ⌝ }
+{
+    let after_done = put_text(out, at, b"done: all ");
+    let after_good = put_decimal(out, after_done, good);
+    put_text(
+        out,
+        after_good,
+        b" records are good, the end record counted\n",
+    )
+}
+
+fn put_bad(out: &mut [u8], at: usize, verdict: Verdict) -> usize
+    ensures { λ r. ⌜ Wrote (now (out .entry)) at (badSentence verdict) (now (out .exit)) r ⌝ }
+    ensures { λ r. ⌜ r ≤ at + 128 ⌝ }
+{
+    let after_refused = put_text(out, at, b"refused after ");
+    let after_good = put_decimal(out, after_refused, verdict.good);
+    let after_records = put_text(out, after_good, b" good records and ");
+    let after_place = put_decimal(out, after_records, verdict.place as u64);
+    let after_characters = put_text(out, after_place, b" characters: ");
+    put_reason(out, after_characters, verdict.answer)
+}
+
+// Writes the sentence, which has at most 128 characters.
+pub fn put_sentence(out: &mut [u8], at: usize, verdict: Verdict) -> usize
+    ensures { λ r. ⌜ Wrote (now (out .entry)) at (sentence verdict) (now (out .exit)) r ⌝ }
+    ensures { λ r. ⌜ r ≤ at + 128 ⌝ }
+{
+    let answer = verdict.answer;
+    if answer == 0 {
+        return put_good(out, at, verdict.good);
+    }
+    if answer == 1 {
+        return put_text(out, at, b"refused: the image is not 65536 bytes long\n");
+    }
+    put_bad(out, at, verdict)
+}

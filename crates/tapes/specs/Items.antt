@@ -1,0 +1,119 @@
+-- What the code tells of a record.
+use Prim.Native.Nat.{ℕ, _+_, _<_}
+use mathlib.Core.Path.{_≡_, refl, ap, sym, _∙_}
+use mathlib.Core.Bool.{Bool, true, false, cond, not}
+use mathlib.Core.List.{List}
+use mathlib.Core.Option.{Option, none, some}
+use native.Mathlib.Omega.{arith}
+use lib.Dec.{eqb, ltb}
+use lib.ListN.{length, take, drop, length-drop}
+use lib.Seq.{length-take-le}
+use Rattle.records.specs.declared.Parts.{Parts}
+use Rattle.records.specs.declared.Found.the-variants.{Record, Malformed}
+use Rattle.records.specs.Records.{recordOf, count, address, sum, last}
+use Rattle.records.specs.Reading.{found, partsOf}
+use Rattle.records.specs.Contents.{Stretch, Item, stretch, finish, bad}
+use Rattle.records.specs.Whole.{never, record-length}
+use Rattle.tapes.specs.declared.Item.{Item as Told}
+use Rattle.tapes.specs.declared.Item.the-variants.{Data, End, Bad}
+use Rattle.tapes.specs.Tapes.{judge, tapeItem}
+
+abbrev pub told : Item → Told
+told (bad reason) = Bad reason
+told finish = End
+told (stretch r) = Data (r .first) (length (r .bytes))
+
+-- the same by the numbers that the code has
+abbrev pub toldBy : ℕ → Parts → Told
+toldBy before p =
+    cond (not (eqb (p .sum) (p .last))) (Bad 6)
+    (cond (eqb (p .count) 0) (cond (eqb (p .address) before) End (Bad 8))
+    (cond (ltb 65536 (p .address + p .count)) (Bad 7) (Data (p .address) (p .count))))
+
+-- the kind of record that was told of
+module _ (i : Item) where
+  pub told-bad : (reason : ℕ) → Bad reason ≡ told i → i ≡ bad reason
+  told-bad reason e = by-case i e
+    where
+      by-case : (i : Item) → Bad reason ≡ told i → i ≡ bad reason
+      by-case (bad r) f = let same : reason ≡ r = cc in rw same
+      by-case finish f = never (cc)
+      by-case (stretch r) f = never (cc)
+
+  pub told-end : End ≡ told i → i ≡ finish
+  told-end e = by-case i e
+    where
+      by-case : (i : Item) → End ≡ told i → i ≡ finish
+      by-case (bad r) f = never (cc)
+      by-case finish f = refl
+      by-case (stretch r) f = never (cc)
+
+  pub told-data : (w n : ℕ) → Data w n ≡ told i → (r : Stretch) × (i ≡ stretch r) × (w ≡ r .first) × (n ≡ length (r .bytes))
+  told-data w n e = by-case i e
+    where
+      by-case : (i : Item) → Data w n ≡ told i → (r : Stretch) × (i ≡ stretch r) × (w ≡ r .first) × (n ≡ length (r .bytes))
+      by-case (bad r) f = never (cc)
+      by-case finish f = never (cc)
+      by-case (stretch r) f = (r, refl, cc, cc)
+
+told-cond : (b : Bool) (x y : Item) → told (cond b x y) ≡ cond b (told x) (told y)
+told-cond true x y = refl
+told-cond false x y = refl
+
+data-length : (bs : List ℕ) → length bs ≡ count bs + 5 → length (take (count bs) (drop 3 bs)) ≡ count bs
+data-length bs h = length-take-le (count bs) (drop 3 bs) (simp length-drop (omega arith))
+
+pub by-bytes : (before : ℕ) (bs : List ℕ) → length bs ≡ count bs + 5 → told (judge before (some bs)) ≡ toldBy before (partsOf bs)
+by-bytes before bs h =
+    told-cond (not (eqb (sum bs) (last bs))) (bad 6) _
+    ∙ ap (λ (t : Told). cond (not (eqb (sum bs) (last bs))) (Bad 6) t)
+    (told-cond (eqb (count bs) 0) (cond (eqb (address bs) before) finish (bad 8)) _
+    ∙ rw (
+      told-cond (eqb (address bs) before) finish (bad 8),
+      told-cond (ltb 65536 (address bs + count bs)) (bad 7) (stretch (record { first = address bs; bytes = take (count bs) (drop 3 bs) })),
+      data-length bs h,
+    ))
+
+module _ (before : ℕ) (s : List ℕ) where
+  pub item-malformed : Malformed ≡ found (recordOf 59 s) → told (tapeItem before s) ≡ Bad 5
+  unfolding tapeItem
+  item-malformed e = by-case (recordOf 59 s) e
+    where
+      by-case : (o : Option (List ℕ)) → Malformed ≡ found o → told (judge before o) ≡ Bad 5
+      by-case none f = refl
+      by-case (some bs) f = never (cc)
+
+  pub item-by-parts : (p : Parts) → Record p ≡ found (recordOf 59 s) → told (tapeItem before s) ≡ toldBy before p
+  unfolding tapeItem
+  item-by-parts p e = by-case (recordOf 59 s) refl e
+    where
+      by-case : (o : Option (List ℕ)) → recordOf 59 s ≡ o → Record p ≡ found o → told (judge before o) ≡ toldBy before p
+      by-case none g f = never (cc)
+      by-case (some bs) g f =
+          let same : p ≡ partsOf bs = cc in
+          by-bytes before bs (record-length 59 s bs g) ∙ ap (toldBy before) (sym same)
+
+-- which tests a kind of record has passed
+abbrev chosen : Bool → Bool → Bool → Bool → Stretch → Item
+chosen sums empty numbers past r = cond (not sums) (bad 6) (cond empty (cond numbers finish (bad 8)) (cond past (bad 7) (stretch r)))
+
+pub only-stretch : (t u v x : Bool) (r q : Stretch) → chosen t u v x r ≡ stretch q → (r ≡ q) × (t ≡ true) × (u ≡ false) × (x ≡ false)
+only-stretch false u v x r q e = never (cc)
+only-stretch true true true x r q e = never (cc)
+only-stretch true true false x r q e = never (cc)
+only-stretch true false v true r q e = never (cc)
+only-stretch true false v false r q e = (cc, refl, refl, refl)
+
+pub only-finish : (t u v x : Bool) (r : Stretch) → chosen t u v x r ≡ finish → (t ≡ true) × (u ≡ true) × (v ≡ true)
+only-finish false u v x r e = never (cc)
+only-finish true true true x r e = (refl, refl, refl)
+only-finish true true false x r e = never (cc)
+only-finish true false v true r e = never (cc)
+only-finish true false v false r e = never (cc)
+
+pub bad-some : (t u v x : Bool) (r : Stretch) (reason : ℕ) → chosen t u v x r ≡ bad reason → 0 < reason
+bad-some false u v x r reason e = let same : 6 ≡ reason = cc in omega arith
+bad-some true true true x r reason e = never (cc)
+bad-some true true false x r reason e = let same : 8 ≡ reason = cc in omega arith
+bad-some true false v true r reason e = let same : 7 ≡ reason = cc in omega arith
+bad-some true false v false r reason e = never (cc)

@@ -1,0 +1,7 @@
+pub mod Tapes
+pub mod Items
+pub mod Grammar
+pub mod Lawful
+pub mod Theorems
+pub mod Examples
+pub mod Writing
