@@ -1,0 +1,10 @@
+pub mod Rescuing
+pub mod Sentence
+pub mod Lengths
+pub mod Laws
+pub mod Theorems
+pub mod Losses
+pub mod Passing
+pub mod Outcomes
+pub mod Buffers
+pub mod Examples
