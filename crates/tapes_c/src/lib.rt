@@ -1,0 +1,65 @@
+// The tapes, for a host in C or Rust: see host/tapes.h.
+ghost use mathlib.Core.Path.{_≡_};
+ghost use Rattle.tapes.specs.Tapes.{readTape};
+ghost use Rattle.punching.specs.Punching.{tapeInto};
+ghost use Rattle.rescuing.specs.Rescuing.{rescued};
+
+// Reads a tape onto a memory.
+#[no_mangle]
+pub extern "C" fn tape_load(text: &[u8], memory: &mut [u8], good: &mut u64, place: &mut usize) -> u8
+    ensures { λ r.
+        ⌜ record { answer = r; good = now (good .exit); place = now (place .exit); memory = now (memory .exit) }
+        ≡ readTape (now (text .entry)) (now (memory .entry)) ⌝ }
+{
+    let verdict = loading::read_tape(text, memory);
+    *good = verdict.good;
+    *place = verdict.place;
+    verdict.answer
+}
+
+// Punches a stretch of memory.
+#[no_mangle]
+pub extern "C" fn tape_punch(
+    memory: &[u8],
+    first: u16,
+    last: u16,
+    text: &mut [u8],
+    size: &mut usize,
+) -> u8
+    ensures { λ r.
+        ⌜ record { answer = r; size = now (size .exit); buffer = now (text .exit) }
+        ≡ tapeInto (now (memory .entry)) first last (now (text .entry)) ⌝ }
+{
+    let delivery = punching::punch(memory, first, last, text);
+    *size = delivery.size;
+    delivery.answer
+}
+
+// Saves what is good of a torn tape.
+#[no_mangle]
+pub extern "C" fn tape_rescue(
+    text: &[u8],
+    out: &mut [u8],
+    size: &mut usize,
+    kept: &mut u64,
+    dropped: &mut u64,
+    first: &mut usize,
+) -> u8
+    ensures { λ r.
+        ⌜ record {
+          answer = r;
+          size = now (size .exit);
+          kept = now (kept .exit);
+          dropped = now (dropped .exit);
+          first = now (first .exit);
+          buffer = now (out .exit);
+        }
+        ≡ rescued (now (text .entry)) (now (out .entry)) ⌝ }
+{
+    let rescued = rescuing::rescue(text, out);
+    *size = rescued.size;
+    *kept = rescued.kept;
+    *dropped = rescued.dropped;
+    *first = rescued.first;
+    rescued.answer
+}

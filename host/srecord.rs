@@ -1,0 +1,165 @@
+//! srec_cat, the command of srecord, on files below one folder.
+
+use std::ffi::OsString;
+use std::fs;
+use std::io;
+use std::ops::Range;
+use std::path::{Path, PathBuf};
+use std::process::{Command, Output};
+
+const COMMAND: &str = "srec_cat";
+const TAPE: &str = "-mos-technologies";
+
+/// There is nothing to compare: a file or the command failed.
+pub struct Failed(pub String);
+
+fn at(path: &Path) -> impl FnOnce(io::Error) -> Failed {
+    move |fault| Failed(format!("{}: {fault}", path.display()))
+}
+
+/// What srecord made of a tape.
+pub enum Read {
+    Bytes(Vec<u8>),
+    Refused(String),
+}
+
+#[derive(Clone, Copy, PartialEq, Eq)]
+pub enum LineEnd {
+    /// What srecord writes where nothing else is asked for.
+    Lf,
+    CrLf,
+    Cr,
+}
+
+impl LineEnd {
+    pub fn text(self) -> &'static str {
+        match self {
+            LineEnd::Lf => "\n",
+            LineEnd::CrLf => "\r\n",
+            LineEnd::Cr => "\r",
+        }
+    }
+
+    fn name(self) -> &'static str {
+        match self {
+            LineEnd::Lf => "newline",
+            LineEnd::CrLf => "carriage_return_line_feed",
+            LineEnd::Cr => "carriage_return",
+        }
+    }
+}
+
+/// How srecord is asked to write a tape.
+#[derive(Clone, Copy)]
+pub struct Spelling {
+    pub line_end: LineEnd,
+    /// The bytes of a record: srecord's own choice where it is not given.
+    pub size: Option<u8>,
+    /// Without it srecord also begins a record wherever a block of its own ends.
+    pub packed: bool,
+}
+
+pub const PLAIN: Spelling = Spelling {
+    line_end: LineEnd::Lf,
+    size: None,
+    packed: false,
+};
+
+pub struct Srecord {
+    folder: PathBuf,
+}
+
+impl Srecord {
+    pub fn new(folder: &Path) -> Result<Srecord, Failed> {
+        fs::create_dir_all(folder).map_err(at(folder))?;
+        Ok(Srecord {
+            folder: folder.to_path_buf(),
+        })
+    }
+
+    fn put(&self, name: &str, bytes: &[u8]) -> Result<OsString, Failed> {
+        let path = self.folder.join(name);
+        fs::write(&path, bytes).map_err(at(&path))?;
+        Ok(path.into())
+    }
+
+    fn run(&self, arguments: &[OsString]) -> Result<Output, Failed> {
+        Command::new(COMMAND)
+            .args(arguments)
+            .output()
+            .map_err(at(Path::new(COMMAND)))
+    }
+
+    /// The file that it was asked for. One that an earlier call wrote must not be taken for it.
+    fn written(&self, mut arguments: Vec<OsString>, format: &str) -> Result<Read, Failed> {
+        let path = self.folder.join("out");
+        if path.exists() {
+            fs::remove_file(&path).map_err(at(&path))?;
+        }
+        arguments.extend(["-o".into(), path.clone().into(), format.into()]);
+        let output = self.run(&arguments)?;
+        if output.status.success() {
+            fs::read(&path).map_err(at(&path)).map(Read::Bytes)
+        } else {
+            let said = String::from_utf8_lossy(&output.stderr);
+            match output.status.code() {
+                Some(_) => Ok(Read::Refused(said.trim().to_string())),
+                None => Err(Failed(format!("{COMMAND}: {}", output.status))),
+            }
+        }
+    }
+
+    /// A tape of some stretches of an image, or of all of it where there are none.
+    pub fn tape(
+        &self,
+        image: &[u8],
+        stretches: &[Range<usize>],
+        spelling: Spelling,
+    ) -> Result<Vec<u8>, Failed> {
+        let mut arguments = vec![self.put("image", image)?, "-binary".into()];
+        if !stretches.is_empty() {
+            arguments.push("-crop".into());
+        }
+        let ends = stretches.iter().flat_map(|range| [range.start, range.end]);
+        arguments.extend(ends.map(|end| end.to_string().into()));
+        arguments.push(format!("-line-termination={}", spelling.line_end.name()).into());
+        if let Some(size) = spelling.size {
+            arguments.push(format!("-output-block-size={size}").into());
+        }
+        if spelling.packed {
+            arguments.push("-output-block-packing".into());
+        }
+        match self.written(arguments, TAPE)? {
+            Read::Bytes(text) => Ok(text),
+            Read::Refused(why) => Err(Failed(format!("{COMMAND} writes no tape: {why}"))),
+        }
+    }
+
+    /// A memory with a tape laid over it, all of it by srecord: it takes out of the memory what the tape has.
+    pub fn laid(&self, tape: &[u8], memory: &[u8]) -> Result<Read, Failed> {
+        let tape = self.put("tape", tape)?;
+        let memory = self.put("memory", memory)?;
+        let arguments = vec![
+            tape.clone(),
+            TAPE.into(),
+            memory,
+            "-binary".into(),
+            "-exclude".into(),
+            "-within".into(),
+            tape,
+            TAPE.into(),
+        ];
+        self.written(arguments, "-binary")
+    }
+
+    /// The bytes of a tape from an address on, up to its last one, 00 where it has none.
+    pub fn bytes(&self, tape: &[u8], from: usize) -> Result<Read, Failed> {
+        let arguments = vec![
+            self.put("tape", tape)?,
+            TAPE.into(),
+            "-offset".into(),
+            format!("-{from}").into(),
+        ];
+        self.written(arguments, "-binary")
+    }
+}

@@ -1,0 +1,53 @@
+/* Paper tapes, proved, for a host in C or C++: link target/staticlib/libtapes_c.a, which `rt staticlib tapes_c` writes for
+ * x86-64.
+ *
+ * In each call the texts, the memory and the numbers must not overlap, and nobody else may use them meanwhile. Every number
+ * that is lent is written.
+ */
+#ifndef TAPES_H
+#define TAPES_H
+
+#include <stddef.h>
+#include <stdint.h>
+
+#ifdef __cplusplus
+extern "C" {
+#endif
+
+/* Reads a tape onto a memory. It answers, the first that holds, 5 to 8 at the first bad record:
+ *   1  memory_length is not 65,536
+ *   5  the record is malformed or cut short, or a stray character stands there
+ *   6  it has a wrong sum
+ *   7  it goes past FFFF
+ *   8  its number of data records is wrong, or there is no end record
+ *   0  the whole tape is good, and its records are stored, a later one over an earlier one
+ * A refusal, any answer but 0, leaves the memory as it was. *good is the number of good records before the first bad one, the
+ * end record counted, and *place the offset at which that begins; where there is none, of all records, and the text's length.
+ * With the answer 1 both are 0. */
+uint8_t tape_load(const uint8_t *text, size_t text_length, uint8_t *memory, size_t memory_length, uint64_t *good,
+                  size_t *place);
+
+/* Writes the memory from a first to a last address as a tape, 24 bytes a record. It answers, the first that holds:
+ *   1  memory_length is not 65,536
+ *   9  first is above last
+ *  10  the tape has more than text_length characters; 166,588 are always enough
+ *   0  the tape stands at the start of the text
+ * *size is the length of the tape, 0 where it is refused. What stands after it is as it was. */
+uint8_t tape_punch(const uint8_t *memory, size_t memory_length, uint16_t first, uint16_t last, uint8_t *text,
+                   size_t text_length, size_t *size);
+
+/* Writes every good data record of a torn tape, and a fresh end record. It answers, the first that holds:
+ *   8  more than 65,535 records could be kept
+ *  10  the new tape has more than out_length characters
+ *   0  it stands at the start of out
+ * *size is its length, *kept the number of records in it, *dropped the number of `;` that begin neither a kept record nor a
+ * good end record, and *first the offset of the first of these, text_length where there is none. Where it is refused all
+ * four are 0, and nothing is written. */
+uint8_t tape_rescue(const uint8_t *text, size_t text_length, uint8_t *out, size_t out_length, size_t *size, uint64_t *kept,
+                    uint64_t *dropped, size_t *first);
+
+#ifdef __cplusplus
+}
+#endif
+
+#endif
