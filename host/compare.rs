@@ -8,15 +8,22 @@ mod states;
 use std::io::IsTerminal;
 use std::process::ExitCode;
 
-use oracle::document;
 use oracle::edges;
 use oracle::known;
 use oracle::random::Random;
+use oracle::rules;
 
 use oracle::options::Options;
-use pair::{Fault, Pair};
+use pair::{Fault, Firsts, Pair, Plant};
 
-const USAGE: &str = "usage: host/compare [--native] [--seed N] [--steps N] [--plant] [ARCHIVE]";
+const USAGE: &str = "usage: host/compare [--native] [--seed N] [--steps N] \
+                     [--plant | --plant-first | --plant-call] [ARCHIVE]";
+/// The marks for the planted faults.
+const PLANTS: [(&str, Plant); 3] = [
+    ("--plant", Plant::Store),
+    ("--plant-first", Plant::First),
+    ("--plant-call", Plant::Call),
+];
 /// The line of progress is renewed after so many steps.
 const STRIDE: u64 = 250_000;
 
@@ -27,11 +34,22 @@ fn tell(line: &str) {
     }
 }
 
-/// The steps of a part and how many of them differ as is listed.
+/// The steps of a part and how many of them differ, by what is listed.
 struct Row {
     name: String,
     steps: u64,
-    listed: u64,
+    listed: [u64; known::ALL.len()],
+}
+
+impl Row {
+    fn print(&self) {
+        let equal = self.steps - self.listed.iter().sum::<u64>();
+        print!("{:26}{:10}{equal:12}", self.name, self.steps);
+        println!(
+            "{}",
+            self.listed.map(|count| format!("{count:16}")).concat()
+        );
+    }
 }
 
 struct Comparison {
@@ -44,11 +62,18 @@ struct Comparison {
 impl Comparison {
     /// What was made so far, or since an earlier such row.
     fn row(&self, name: &str, since: Option<&Row>) -> Row {
-        let (steps, listed) = since.map_or((0, 0), |row| (row.steps, row.listed));
+        let mut listed = self.pair.listed.map(|by_opcode| by_opcode.iter().sum());
+        let mut steps = self.pair.steps;
+        if let Some(row) = since {
+            steps -= row.steps;
+            for (count, before) in listed.iter_mut().zip(row.listed) {
+                *count -= before;
+            }
+        }
         Row {
             name: name.into(),
-            steps: self.pair.steps - steps,
-            listed: self.pair.listed.iter().sum::<u64>() - listed,
+            steps,
+            listed,
         }
     }
 
@@ -97,40 +122,49 @@ impl Comparison {
     }
 
     fn summary(&self) {
+        let columns = known::ALL.map(|(column, _)| format!("{column:>16}"));
         println!(
-            "{:26}{:>10}{:>12}{:>20}",
-            "part", "steps", "equal", "listed difference"
+            "{:26}{:>10}{:>12}{}",
+            "part",
+            "steps",
+            "equal",
+            columns.concat()
         );
-        let all = self.row("all", None);
-        for Row {
-            name,
-            steps,
-            listed,
-        } in self.rows.iter().chain([&all])
-        {
-            println!("{name:26}{steps:10}{:12}{listed:20}", steps - listed);
-        }
-        let fewest = document::all().map(|entry| self.pair.made[usize::from(entry.opcode)]);
+        self.rows.iter().for_each(Row::print);
+        self.row("all", None).print();
+        let fewest = rules::all().map(|entry| self.pair.made[usize::from(entry.opcode)]);
         println!(
             "each of the 151 opcodes was stepped at least {} times",
             fewest.min().unwrap_or(0)
         );
-        println!("listed: {}", known::MODIFY_OVER_A_PAGE);
-        let by_opcode = (0..=0xFF_u8).zip(self.pair.listed);
-        let by_opcode = by_opcode.filter(|(_, count)| *count > 0);
-        let by_opcode: Vec<String> = by_opcode
-            .map(|(opcode, count)| format!("{opcode:02X} {count}"))
-            .collect();
-        println!("  by opcode: {}", by_opcode.join(", "));
+        for ((_, sentence), counts) in known::ALL.iter().zip(self.pair.listed) {
+            let by_opcode = (0..=0xFF_u8).zip(counts);
+            let by_opcode = by_opcode.filter(|(_, count)| *count > 0);
+            let by_opcode: Vec<String> = by_opcode
+                .map(|(opcode, count)| format!("{opcode:02X} {count}"))
+                .collect();
+            println!("listed: {sentence}");
+            println!("  by opcode: {}", by_opcode.join(", "));
+        }
         println!(
-            "the Rust's {} reads and {} stores are document 01's, in its order",
+            "the Rust's {} reads and {} stores are those of docs/RULES.md, in its order but for JSR's last operand byte",
             self.pair.reads, self.pair.stores
+        );
+        let Firsts {
+            none,
+            last,
+            uncarried,
+        } = self.pair.firsts;
+        println!(
+            "the address put out first is that of docs/RULES.md: \
+             not the final one at {uncarried} steps, the final one at {last}, none at {none}"
         );
     }
 }
 
 fn main() -> ExitCode {
-    let options = match Options::of_arguments(&["--seed", "--steps"], &["--plant"]) {
+    let options = match Options::of_arguments(&["--seed", "--steps"], &PLANTS.map(|(mark, _)| mark))
+    {
         Ok(options) => options,
         Err(fault) => {
             eprintln!("compare: {fault}\n{USAGE}");
@@ -139,10 +173,11 @@ fn main() -> ExitCode {
     };
     let seed = options.number("--seed", 6502);
     let steps = options.number("--steps", 20_000_000);
-    let plant = options.has("--plant");
+    let planted = PLANTS.into_iter().find(|(mark, _)| options.has(mark));
+    let plant = planted.map_or(Plant::None, |(_, plant)| plant);
     println!(
         "seed {seed}, steps {steps}{}",
-        if plant { ", with a planted fault" } else { "" }
+        planted.map_or("", |_| ", with a planted fault")
     );
     let mut random = Random::new(seed);
     let pair = Pair::new(random.memory(), plant);

@@ -1,7 +1,7 @@
 //! The images on which the program report is asked.
 
-use oracle::document::{self, Entry};
 use oracle::random::Random;
+use oracle::rules::{self, Entry};
 
 use crate::lines::SIZE;
 
@@ -90,13 +90,13 @@ fn lay(
 
 /// Whether the next instruction is the one that stands after it.
 fn goes_on(entry: &Entry) -> bool {
-    use document::Kind::{Inside, Keep, Load, Modify, Pull, Push};
+    use rules::Kind::{Inside, Keep, Load, Modify, Pull, Push};
     matches!(entry.kind, Load | Keep | Modify | Push | Pull(1) | Inside)
 }
 
 /// Every byte is an opcode, operands too: only the start address and what the program itself stores can stop it.
 fn opcodes_throughout(random: &mut Random) -> Vec<u8> {
-    let opcodes: Vec<u8> = document::all().map(|entry| entry.opcode).collect();
+    let opcodes: Vec<u8> = rules::all().map(|entry| entry.opcode).collect();
     let byte = || opcodes[random.below(opcodes.len())];
     let mut image: Vec<u8> = std::iter::repeat_with(byte).take(SIZE).collect();
     put_address(&mut image, START, random.address());
@@ -107,7 +107,7 @@ fn opcodes_throughout(random: &mut Random) -> Vec<u8> {
 fn code_throughout(random: &mut Random) -> Vec<u8> {
     let mut image = vec![0; SIZE];
     let start = random.address();
-    let entries: Vec<Entry> = document::all().collect();
+    let entries: Vec<Entry> = rules::all().collect();
     lay(&mut image, start, SIZE - 2, &entries, random);
     put_address(&mut image, START, start);
     image
@@ -119,7 +119,7 @@ fn stretch_of_code(random: &mut Random) -> Vec<u8> {
     let start = random.address();
     let most = 8 << random.below(10);
     let size = random.below(most);
-    let entries: Vec<Entry> = document::all().filter(goes_on).collect();
+    let entries: Vec<Entry> = rules::all().filter(goes_on).collect();
     lay(&mut image, start, size, &entries, random);
     put_address(&mut image, START, start);
     image
@@ -131,8 +131,8 @@ fn loop_on_blank(random: &mut Random) -> Vec<u8> {
     let start = random.address();
     put_address(&mut image, BREAK, start);
     let size = random.below(64);
-    let stays = |entry: &Entry| goes_on(entry) || entry.kind == document::Kind::Branch;
-    let entries: Vec<Entry> = document::all().filter(stays).collect();
+    let stays = |entry: &Entry| goes_on(entry) || entry.kind == rules::Kind::Branch;
+    let entries: Vec<Entry> = rules::all().filter(stays).collect();
     let end = lay(&mut image, start, size, &entries, random);
     let [low, high] = start.to_le_bytes();
     put(&mut image, end, &[0x4C, low, high]);

@@ -5,7 +5,7 @@ use std::process::{Command, ExitCode};
 
 use mos6502::Variant;
 use mos6502::instruction::{AddressingMode, Nmos6502};
-use oracle::document;
+use oracle::rules;
 
 const IMAGE: &str = "target/host/opcodes.img";
 /// The two bytes after each opcode. None of them is an opcode, so that each opcode begins a line.
@@ -41,7 +41,7 @@ fn lines(opcode: u8, low: u8, high: u8) -> String {
     let mut text = String::new();
     let mut shown = 0;
     // The Rust decodes some bytes that are no documented opcodes.
-    if document::entry(opcode).is_some()
+    if rules::entry(opcode).is_some()
         && let Some((instruction, mode)) = Nmos6502::decode(opcode)
     {
         shown = 1 + usize::from(mode.extra_bytes());
@@ -77,6 +77,10 @@ fn main() -> ExitCode {
             .stdin(File::open(IMAGE).expect("the image is there"))
             .output()
             .expect("run starts");
+        if !listed.status.success() {
+            println!("./run list: {}", listed.status);
+            return ExitCode::from(1);
+        }
         let listed = String::from_utf8_lossy(&listed.stdout).into_owned();
         for (rust, port) in expected.lines().zip(listed.lines()) {
             if rust != port {

@@ -26,26 +26,32 @@ uint8_t mos6502_stack(uint64_t registers);
 uint8_t mos6502_status(uint64_t registers);
 uint16_t mos6502_counter(uint64_t registers);
 
-/* In both calls below the numbers and the `length` bytes of memory must not overlap, and nobody else may use them
+/* In the three calls below the numbers and the `length` bytes of memory must not overlap, and nobody else may use them
  * meanwhile. */
 
-/* One step. It answers, the first that holds:
+/* One step; *first is written, with the address that the part puts out first. Where an index is added to an address of two
+ * bytes, that is the base's high byte with the sum's low byte, and in every other mode that has an address the final one. It
+ * is 0 where the mode has none (implied, accumulator, immediate, branch). The step answers, the first that holds:
  *   1  length is not 65,536
  *   2  *cycles is above 18,446,744,073,709,551,608
  *   3  the byte at the counter is none of the 151 documented opcodes
  *   0  the step was made: both numbers and the memory are those after it
- * A refusal, any answer but 0, leaves both numbers and the memory as they were. */
-uint8_t mos6502_step(uint64_t *registers, uint64_t *cycles, uint8_t *memory, size_t length);
+ * A refusal, any answer but 0, leaves both numbers and the memory as they were, and *first is 0. */
+uint8_t mos6502_step(uint64_t *registers, uint64_t *cycles, uint16_t *first, uint8_t *memory, size_t length);
 
 /* At most `bound` steps; *steps is written, with the number of steps made. It answers, the first that holds:
  *   1  length is not 65,536
  *   4  bound is above 1,000,000
  *   2, 3  as a step does, for the first step that is refused; it is not counted
- *   0  all `bound` steps were made
+ *   0  all `bound` steps were made; the program was still running, and nothing says that it finished
  * The numbers and the memory are those after the steps made. Where none was made, they are as they were, the registers'
  * number to the bit. */
 uint8_t mos6502_run(uint64_t *registers, uint64_t *cycles, uint64_t *steps, uint64_t bound, uint8_t *memory,
                     size_t length);
+
+/* The same with any bound, so that no answer is 4. A run of m steps and then one of n give what one of m + n gives. */
+uint8_t mos6502_long_run(uint64_t *registers, uint64_t *cycles, uint64_t *steps, uint64_t bound, uint8_t *memory,
+                         size_t length);
 
 #ifdef __cplusplus
 }

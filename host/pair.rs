@@ -1,11 +1,12 @@
 //! Both cores on equal memories, compared after every step.
 
+use oracle::addresses::Aim;
 use oracle::case::Case;
 use oracle::core::{Access, Core};
-use oracle::document;
 use oracle::known;
+use oracle::rules;
 use oracle::state::{State, byte_difference, difference};
-use port::StepAnswer;
+use saxundeer::StepAnswer;
 
 use crate::states::{machine_of, state_of};
 
@@ -18,25 +19,48 @@ pub struct Fault {
     pub what: String,
 }
 
+/// A fault that is put into the port's results, to show that it is found.
+#[derive(Clone, Copy, PartialEq, Eq)]
+pub enum Plant {
+    None,
+    /// STA (FF),Y, whose pointer turns over in the zero page, stores a byte with the lowest bit turned.
+    Store,
+    /// The address put out first has the carry, as the final one has.
+    First,
+    /// JSR reads its high operand byte before the pushes, as the Rust does.
+    Call,
+}
+
+/// The steps by what their address put out first is.
+#[derive(Default)]
+pub struct Firsts {
+    /// The mode has no address.
+    pub none: u64,
+    /// The final address.
+    pub last: u64,
+    /// Another one: the index carried.
+    pub uncarried: u64,
+}
+
 pub struct Pair {
     pub rust: Core,
     pub memory: Vec<u8>,
-    /// Spoils the port's results, to show that this is seen: see `spoil`.
-    plant: bool,
+    plant: Plant,
     /// The cases since all bytes were compared.
     window: Vec<Case>,
     expected: Vec<Access>,
     pub steps: u64,
     /// The steps by opcode.
     pub made: [u64; 256],
-    /// The steps that differ as is listed, by opcode.
-    pub listed: [u64; 256],
+    /// The steps that differ as is listed, by what is listed and by opcode.
+    pub listed: [[u64; 256]; known::ALL.len()],
+    pub firsts: Firsts,
     pub reads: u64,
     pub stores: u64,
 }
 
 impl Pair {
-    pub fn new(memory: Vec<u8>, plant: bool) -> Pair {
+    pub fn new(memory: Vec<u8>, plant: Plant) -> Pair {
         Pair {
             rust: Core::new(memory.clone()),
             memory,
@@ -45,7 +69,8 @@ impl Pair {
             expected: Vec::with_capacity(8),
             steps: 0,
             made: [0; 256],
-            listed: [0; 256],
+            listed: [[0; 256]; known::ALL.len()],
+            firsts: Firsts::default(),
             reads: 0,
             stores: 0,
         }
@@ -64,25 +89,21 @@ impl Pair {
         self.step(&case.state)
     }
 
-    /// One step of both, and the state after it by the Rust. The byte at the counter must be one of the 151.
+    /// One step of both, and the state after it by the rules. The byte at the counter must be one of the 151.
     pub fn step(&mut self, before: &State) -> Result<State, Fault> {
         let opcode = self.memory[usize::from(before.counter)];
-        let entry = document::entry(opcode).expect("a case of no opcode");
-        let memory = &self.memory;
-        entry.accesses(
-            before,
-            |address| memory[usize::from(address)],
-            &mut self.expected,
-        );
+        let entry = rules::entry(opcode).expect("a case of no opcode");
+        let byte = |address| self.memory[usize::from(address)];
+        entry.accesses(before, byte, &mut self.expected);
+        let aim = entry.aim(before, byte);
         let case = Case::of_memory(*before, &self.expected, &self.memory);
+        known::in_the_rusts_order(&case, &mut self.expected);
         let rust = self.rust.step(before);
-        let answer = port::single_step(machine_of(before), &mut self.memory);
-        if self.plant {
-            spoil(&case, &self.expected, &mut self.memory);
-        }
+        let mut answer = saxundeer::single_step(machine_of(before), &mut self.memory);
+        self.spoil(&case, aim.as_ref(), &mut answer);
         self.steps += 1;
         self.made[usize::from(opcode)] += 1;
-        let judged = self.judge(&case, rust, answer);
+        let judged = self.judge(&case, aim, rust, answer);
         self.window.push(case.clone());
         match judged {
             Err(what) => Err(Fault {
@@ -97,19 +118,40 @@ impl Pair {
     fn judge(
         &mut self,
         case: &Case,
+        aim: Option<Aim>,
         rust: Option<State>,
         answer: StepAnswer,
     ) -> Result<State, String> {
         let Some(rust) = rust else {
             return Err("the Rust made no step".into());
         };
-        let StepAnswer::Made(machine) = answer else {
+        let StepAnswer::Made { machine, first } = answer else {
             return Err(format!("the port answered {answer:?}"));
         };
+        self.judge_accesses()?;
+        self.judge_first(aim, first)?;
+        let Some(demanded) = known::demanded(case, &rust) else {
+            return Err(format!("the listed difference: the Rust went to {rust}"));
+        };
+        // Where the Rust's state is not the one that is demanded, the port's must be another than the Rust's too.
+        match difference(&demanded, &state_of(&machine)) {
+            None => {
+                if let Some(known) = known::cause(case) {
+                    self.listed[known as usize][usize::from(case.byte(case.state.counter))] += 1;
+                }
+                Ok(demanded)
+            }
+            Some(what) if known::cause(case).is_none() => Err(what),
+            Some(what) => Err(format!("{what}; here the Rust's is put right as is listed")),
+        }
+    }
+
+    /// The Rust's are those of the rules, and what it stored stands in the port's memory.
+    fn judge_accesses(&mut self) -> Result<(), String> {
         let accesses = self.rust.accesses();
         if accesses != self.expected {
             return Err(format!(
-                "the accesses: the Rust {accesses:04X?}, document 01 {:04X?}",
+                "the accesses: the Rust {accesses:04X?}, the rules {:04X?}",
                 self.expected
             ));
         }
@@ -128,16 +170,41 @@ impl Pair {
                 }
             }
         }
-        let port = state_of(&machine);
-        match difference(&rust, &port) {
-            None => Ok(rust),
-            Some(_) if known::is_explained(case, &rust, &port) => {
-                self.listed[usize::from(case.byte(case.state.counter))] += 1;
-                // Both go on from the port's count: one listed cycle is not to show in every later step.
-                let cycles = port.cycles;
-                Ok(State { cycles, ..rust })
+        Ok(())
+    }
+
+    /// The Rust has no such address: it is the rules' alone.
+    fn judge_first(&mut self, aim: Option<Aim>, port: u16) -> Result<(), String> {
+        let rules = aim.as_ref().map_or(0, |aim| aim.first);
+        let count = match aim {
+            None => &mut self.firsts.none,
+            Some(aim) if aim.first == aim.address => &mut self.firsts.last,
+            Some(_) => &mut self.firsts.uncarried,
+        };
+        *count += 1;
+        if rules == port {
+            return Ok(());
+        }
+        Err(format!(
+            "the address put out first: the rules {rules:04X}, the port {port:04X}"
+        ))
+    }
+
+    /// Puts the planted fault into the port's results.
+    fn spoil(&mut self, case: &Case, aim: Option<&Aim>, answer: &mut StepAnswer) {
+        let code = [0, 1, 2].map(|number| case.byte(case.state.operand(number)));
+        let StepAnswer::Made { machine, first } = answer else {
+            return;
+        };
+        match (self.plant, code, self.expected.last()) {
+            (Plant::Store, [0x91, 0xFF, _], Some(Access::Store(address))) => {
+                self.memory[usize::from(*address)] ^= 1;
             }
-            Some(what) => Err(what),
+            (Plant::First, ..) => *first = aim.map_or(0, |aim| aim.address),
+            (Plant::Call, [0x20, low, high], _) => {
+                machine.registers.program_counter = u16::from_le_bytes([low, high]);
+            }
+            _ => {}
         }
     }
 
@@ -158,20 +225,10 @@ impl Pair {
 }
 
 /// What differs in the step of a case on an otherwise empty memory, all bytes compared.
-pub fn fault_of(case: &Case, plant: bool) -> Option<String> {
+pub fn fault_of(case: &Case, plant: Plant) -> Option<String> {
     let mut pair = Pair::new(case.memory(), plant);
     match pair.step(&case.state) {
         Ok(_) => byte_difference(pair.rust.bytes(), &pair.memory),
         Err(fault) => Some(fault.what),
-    }
-}
-
-/// The planted fault: STA (FF),Y, whose pointer turns over in the zero page, stores a byte with the lowest bit turned.
-fn spoil(case: &Case, accesses: &[Access], memory: &mut [u8]) {
-    let counter = case.state.counter;
-    if [case.byte(counter), case.byte(counter.wrapping_add(1))] == [0x91, 0xFF]
-        && let Some(Access::Store(address)) = accesses.last()
-    {
-        memory[usize::from(*address)] ^= 1;
     }
 }

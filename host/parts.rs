@@ -1,12 +1,12 @@
 //! The four parts of the comparison.
 
-use oracle::document;
 use oracle::edges::Class;
 use oracle::loops;
 use oracle::random::Random;
+use oracle::rules;
 use oracle::state::{State, byte_difference, difference};
 use oracle::sums;
-use port::{HIGHEST_BOUND, HIGHEST_CYCLES, RunAnswer, StepAnswer};
+use saxundeer::{HIGHEST_BOUND, HIGHEST_CYCLES, Machine, RunAnswer, StepAnswer};
 
 use crate::pair::{Fault, Pair};
 use crate::states::{machine_of, state_of};
@@ -25,7 +25,7 @@ pub fn random_states(
     steps: u64,
     progress: &mut impl FnMut(u64),
 ) -> Result<(), Fault> {
-    for entry in document::all() {
+    for entry in rules::all() {
         for _ in 0..steps {
             let mut case = random.case(entry);
             case.state.cycles = random_cycles(random);
@@ -71,7 +71,7 @@ pub fn long_runs(
     steps: u64,
     progress: &mut impl FnMut(u64),
 ) -> Result<(), Fault> {
-    let opcodes: Vec<u8> = document::all().map(|entry| entry.opcode).collect();
+    let opcodes: Vec<u8> = rules::all().map(|entry| entry.opcode).collect();
     let end = pair.steps + steps;
     for program in loops::all() {
         let last = pair.steps + HIGHEST_BOUND.min(steps / 10);
@@ -89,8 +89,8 @@ pub fn long_runs(
     Ok(())
 }
 
-/// Until `last` steps are made in all. Every stretch up to a byte that is no opcode is also made by one run of the
-/// port, on a memory of its own.
+/// Until `last` steps are made in all. Every stretch up to a byte that is no opcode is also made by one run or long run of
+/// the port, in turn, on a memory of its own.
 fn long_run(
     pair: &mut Pair,
     mut run_memory: Vec<u8>,
@@ -102,8 +102,10 @@ fn long_run(
         pair.put(address, *byte);
     }
     let mut state = start;
+    let mut runs = [saxundeer::run, saxundeer::long_run].into_iter().cycle();
     while pair.steps < last {
-        state = stretch(pair, &mut run_memory, state, last)?;
+        let run = runs.next().unwrap_or(saxundeer::run);
+        state = stretch(pair, run, &mut run_memory, state, last)?;
         if pair.steps < last {
             let opcode = replacement();
             pair.put(state.counter, opcode);
@@ -120,14 +122,15 @@ fn long_run(
 /// Steps until a byte is no opcode or `last` steps are made in all, and the same by one run of the port.
 fn stretch(
     pair: &mut Pair,
+    run: fn(Machine, u64, &mut [u8]) -> RunAnswer,
     run_memory: &mut [u8],
     start: State,
     last: u64,
 ) -> Result<State, Fault> {
     let begin = pair.steps;
-    let answer = port::run(machine_of(&start), last - begin, run_memory);
+    let answer = run(machine_of(&start), last - begin, run_memory);
     let mut state = start;
-    while pair.steps < last && document::entry(pair.memory[usize::from(state.counter)]).is_some() {
+    while pair.steps < last && rules::entry(pair.memory[usize::from(state.counter)]).is_some() {
         state = pair.step(&state)?;
     }
     let made = pair.steps - begin;
@@ -152,7 +155,9 @@ fn stretch(
         return Err(fault_at(start, format!("after the port's run: {what}")));
     }
     let machine = machine_of(&state);
-    if refused && port::single_step(machine, &mut pair.memory) != StepAnswer::NotAnOpcode(machine) {
+    if refused
+        && saxundeer::single_step(machine, &mut pair.memory) != StepAnswer::NotAnOpcode(machine)
+    {
         return Err(fault_at(
             state,
             "the step at no opcode was not refused".into(),

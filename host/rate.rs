@@ -1,110 +1,194 @@
-//! How many steps a second the Rust of docs/src and the port make, on the same images in one process. Every pair of
-//! runs must end in the same state; a rate of a core that computes something else would say nothing.
+//! How many steps a second the Rust of docs/src and the port make, on the same images in one process. Every run must end in
+//! the state and the memory in which the Rust's does; a rate of a core that computes something else would say nothing.
 
 mod clock;
+mod rust_loop;
 mod states;
+mod ways;
 
 use std::process::ExitCode;
 use std::time::Duration;
 
-use mos6502::cpu::CPU;
-use mos6502::instruction::Nmos6502;
-use mos6502::memory::{Bus, Memory};
-use oracle::loops;
+use oracle::loops::{self, Loop};
 use oracle::state::{State, byte_difference, difference};
-use port::{HIGHEST_BOUND, Progress, RunAnswer};
+use saxundeer::RunAnswer;
 
 use clock::processor_time;
+use oracle::options::Options;
+use rust_loop::{Run, time_rust};
 use states::{machine_of, state_of};
+use ways::Way;
 
-const STEPS: u64 = 20_000_000;
-const ROUNDS: usize = 5;
+const USAGE: &str = "usage: host/rate [--growth] [ARCHIVE]";
+const STEPS: u64 = 5_000_000;
+const ROUNDS: usize = 25;
+const GROWTH_ROUNDS: usize = 3;
+/// The Rust's two builds, then the port's ways.
+const COLUMNS: usize = 2 + ways::ALL.len();
 
-/// How long a core took, and the state and the memory in which it ended.
-type Run = (Duration, State, Vec<u8>);
-
-/// The Rust has no bounded run, and its `run` never ends on these images: a user would loop over its single step.
-fn time_rust(image: &[u8]) -> Result<Run, String> {
-    let mut memory = Memory::new();
-    memory.set_bytes(0, image);
-    let mut cpu = CPU::new(memory, Nmos6502);
-    loops::START.put(&mut cpu);
-    let begin = processor_time();
-    for step in 0..STEPS {
-        if !cpu.single_step() {
-            return Err(format!("the Rust made no step after {step}"));
-        }
-    }
-    let time = processor_time() - begin;
-    let end = State::of(&cpu);
-    let memory = (0..=0xFFFF).map(|address| cpu.memory.get_byte(address));
-    Ok((time, end, memory.collect()))
+unsafe extern "C" {
+    /// The same loop as `time_rust`, built with lto=fat: see fat.rs.
+    fn fat_run(image: *mut u8, steps: u64, end: *mut u64) -> u64;
 }
 
-fn time_port(image: &[u8]) -> Result<Run, String> {
+fn time_fat(image: &[u8]) -> Result<Run, String> {
     let mut memory = image.to_vec();
-    let mut machine = machine_of(&loops::START);
-    let begin = processor_time();
-    let mut made = 0;
-    while made < STEPS {
-        let bound = HIGHEST_BOUND.min(STEPS - made);
-        let RunAnswer::Made(Progress {
-            steps,
-            machine: after,
-        }) = port::run(machine, bound, &mut memory)
-        else {
-            return Err(format!("the port's run stopped after {made} steps"));
-        };
-        made += steps;
-        machine = after;
+    let mut end = [0; 7];
+    // Sound: the image is whole, and both are this function's own.
+    let time = unsafe { fat_run(memory.as_mut_ptr(), STEPS, end.as_mut_ptr()) };
+    if time == u64::MAX {
+        return Err("the Rust with lto=fat made no step".into());
     }
-    let time = processor_time() - begin;
-    Ok((time, state_of(&machine), memory))
+    let [counter, accumulator, x, y, stack, status, cycles] = end;
+    let state = State {
+        counter: counter as u16,
+        accumulator: accumulator as u8,
+        x: x as u8,
+        y: y as u8,
+        stack: stack as u8,
+        status: status as u8,
+        cycles,
+    };
+    Ok((Duration::from_nanos(time), state, memory))
 }
 
-/// One run on each core, and that they end alike.
-fn time_both(image: &[u8]) -> Result<[Duration; 2], String> {
-    let (rust_time, rust_end, rust_memory) = time_rust(image)?;
-    let (port_time, port_end, port_memory) = time_port(image)?;
-    let differs = difference(&rust_end, &port_end);
-    match differs.or_else(|| byte_difference(&rust_memory, &port_memory)) {
-        None => Ok([rust_time, port_time]),
+fn time_port(way: Way, image: &[u8], steps: u64) -> Result<Run, String> {
+    let mut memory = image.to_vec();
+    let begin = processor_time();
+    let end = way(&mut memory, steps)?;
+    Ok((processor_time() - begin, end, memory))
+}
+
+/// That two runs ended alike.
+fn same(one: &Run, other: &Run) -> Result<(), String> {
+    let differs = difference(&one.1, &other.1);
+    match differs.or_else(|| byte_difference(&one.2, &other.2)) {
+        None => Ok(()),
         Some(what) => Err(format!("the end states differ in {what}")),
     }
 }
 
+/// One run in each column, all of them ending alike.
+fn time_all(image: &[u8]) -> Result<[Duration; COLUMNS], String> {
+    let rust = time_rust(image, STEPS)?;
+    let fat = time_fat(image)?;
+    same(&rust, &fat)?;
+    let mut times = [
+        rust.0,
+        fat.0,
+        Duration::ZERO,
+        Duration::ZERO,
+        Duration::ZERO,
+    ];
+    for (time, (_, way)) in times.iter_mut().skip(2).zip(ways::ALL) {
+        let port = time_port(way, image, STEPS)?;
+        same(&rust, &port)?;
+        *time = port.0;
+    }
+    Ok(times)
+}
+
 fn measure() -> Result<(), String> {
     let loops = loops::all();
-    let mut best = [[Duration::MAX; 2]; 3];
+    let mut best = [[Duration::MAX; COLUMNS]; 3];
     for _ in 0..ROUNDS {
         for (program, best) in loops.iter().zip(&mut best) {
-            let times =
-                time_both(&program.image).map_err(|fault| format!("{}: {fault}", program.name))?;
+            let times = time_all(&program.image).map_err(|fault| fault_in(program, &fault))?;
             for (best, time) in best.iter_mut().zip(times) {
                 *best = time.min(*best);
             }
         }
     }
+    let heads = ways::ALL.map(|(head, _)| head);
+    print!("{:14}{:>10}{:>10}", "M steps/s", "Rust", "lto=fat");
     println!(
-        "{:14}{:>18}{:>18}{:>13}",
-        "loop", "Rust M steps/s", "port M steps/s", "port/Rust"
+        "{}",
+        heads
+            .map(|head| format!("{head:>10}{:>10}", "/Rust"))
+            .concat()
     );
     for (program, best) in loops.iter().zip(&best) {
-        let [rust, port] = best.map(|time| STEPS as f64 / time.as_secs_f64() / 1e6);
+        let rates = best.map(|time| STEPS as f64 / time.as_secs_f64() / 1e6);
+        let [rust, fat, port @ ..] = rates;
+        print!("{:14}{rust:10.1}{fat:10.1}", program.name);
         println!(
-            "{:14}{rust:18.1}{port:18.1}{:13.2}",
-            program.name,
-            port / rust
+            "{}",
+            port.map(|rate| format!("{rate:10.1}{:10.2}", rate / rust))
+                .concat()
         );
     }
     println!(
-        "{STEPS} steps a run, the best of {ROUNDS} runs by processor time; the two end states were equal after each."
+        "{STEPS} steps a run, the best of {ROUNDS} runs by processor time; the end states were equal after each."
+    );
+    Ok(())
+}
+
+fn fault_in(program: &Loop, fault: &str) -> String {
+    format!("{}: {fault}", program.name)
+}
+
+/// One long run, which must end as the parts do.
+fn time_long(image: &[u8], steps: u64) -> Result<Run, String> {
+    let mut memory = image.to_vec();
+    let begin = processor_time();
+    match saxundeer::long_run(machine_of(&loops::START), steps, &mut memory) {
+        RunAnswer::Made(progress) if progress.steps == steps => {
+            let time = processor_time() - begin;
+            Ok((time, state_of(&progress.machine), memory))
+        }
+        other => Err(format!("the long run answered {other:?}")),
+    }
+}
+
+/// The best times of so many steps in parts of a million, and in one long run.
+fn best_of_growth(image: &[u8], steps: u64) -> Result<[f64; 2], String> {
+    let mut best = [Duration::MAX; 2];
+    for _ in 0..GROWTH_ROUNDS {
+        let parts = time_port(ways::by_run, image, steps)?;
+        let whole = time_long(image, steps)?;
+        same(&parts, &whole)?;
+        best = [best[0].min(parts.0), best[1].min(whole.0)];
+    }
+    Ok(best.map(|time| time.as_secs_f64()))
+}
+
+/// The time of more and more steps.
+fn growth() -> Result<(), String> {
+    println!(
+        "{:14}{:>12}{:>12}{:>16}{:>14}",
+        "loop", "steps", "parts, s", "parts, ns/step", "one run, s"
+    );
+    for program in loops::all() {
+        for steps in [1, 10, 100, 1_000].map(|millions| millions * 1_000_000) {
+            let [parts, whole] = best_of_growth(&program.image, steps)
+                .map_err(|fault| fault_in(&program, &fault))?;
+            println!(
+                "{:14}{steps:12}{parts:12.4}{:16.2}{whole:14.4}",
+                program.name,
+                parts * 1e9 / steps as f64
+            );
+        }
+    }
+    println!(
+        "the best of {GROWTH_ROUNDS} runs by processor time; the end states of the two were equal after each."
     );
     Ok(())
 }
 
 fn main() -> ExitCode {
-    match measure() {
+    let options = match Options::of_arguments(&[], &["--growth"]) {
+        Ok(options) => options,
+        Err(fault) => {
+            eprintln!("rate: {fault}\n{USAGE}");
+            return ExitCode::from(2);
+        }
+    };
+    let measured = if options.has("--growth") {
+        growth()
+    } else {
+        measure()
+    };
+    match measured {
         Ok(()) => ExitCode::SUCCESS,
         Err(fault) => {
             eprintln!("rate: {fault}");

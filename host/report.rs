@@ -5,15 +5,15 @@ mod lines;
 
 use std::collections::BTreeSet;
 use std::fs::{self, File};
-use std::io;
+use std::io::{self, BufRead, BufReader, Read};
 use std::path::{Path, PathBuf};
 use std::process::{Command, ExitCode, Stdio};
 use std::thread;
 
-use oracle::document;
 use oracle::known;
 use oracle::options::Options;
 use oracle::random::Random;
+use oracle::rules;
 
 use images::KINDS;
 use lines::Report;
@@ -77,8 +77,8 @@ struct Comparison {
     lines: BTreeSet<String>,
     /// The steps by opcode.
     made: [u64; 256],
-    listed_images: usize,
-    listed_steps: usize,
+    /// The images with steps that were put right, and these steps, by what is listed.
+    listed: [(usize, usize); known::ALL.len()],
 }
 
 impl Comparison {
@@ -89,13 +89,12 @@ impl Comparison {
             all: Row::default(),
             lines: BTreeSet::new(),
             made: [0; 256],
-            listed_images: 0,
-            listed_steps: 0,
+            listed: [(0, 0); known::ALL.len()],
         }
     }
 
-    /// Makes the image of a number, and gives its file and the Rust's line.
-    fn image(&mut self, number: usize) -> Result<(PathBuf, String), Fault> {
+    /// Makes the image of a number, and gives its file and what the Rust makes of it.
+    fn image(&mut self, number: usize) -> Result<(PathBuf, Report), Fault> {
         let place = images::place_of(number);
         let image = (KINDS[place].image)(&mut self.random);
         let report = lines::report(&image).map_err(Fault::Differs)?;
@@ -104,12 +103,14 @@ impl Comparison {
         for opcode in &report.opcodes {
             self.made[usize::from(*opcode)] += 1;
         }
-        self.listed_images += usize::from(report.listed > 0);
-        self.listed_steps += report.listed;
+        for ((images, steps), count) in self.listed.iter_mut().zip(report.listed) {
+            *images += usize::from(count > 0);
+            *steps += count;
+        }
         self.lines.insert(report.line.clone());
         let file = Path::new(FOLDER).join(format!("{number}.img"));
         fs::write(&file, image).map_err(at(&file))?;
-        Ok((file, report.line))
+        Ok((file, report))
     }
 
     /// With a planted fault the Rust's last line is spoiled, so that all the others must be equal first.
@@ -117,17 +118,17 @@ impl Comparison {
         for first in (1..=images).step_by(BATCH) {
             let last = images.min(first + BATCH - 1);
             let batch = (first..=last).map(|number| self.image(number));
-            let (files, mut lines): (Vec<PathBuf>, Vec<String>) =
+            let (files, mut reports): (Vec<PathBuf>, Vec<Report>) =
                 batch.collect::<Result<Vec<_>, _>>()?.into_iter().unzip();
             if plant
                 && last == images
-                && let Some(line) = lines.last_mut()
+                && let Some(report) = reports.last_mut()
             {
-                line.insert(0, '0');
+                report.line.insert(0, '0');
             }
-            let said = ask(&files)?;
-            let mut said = said.split_inclusive('\n');
-            for ((number, file), line) in (first..).zip(&files).zip(&lines) {
+            let Said { lines, status } = ask(&files)?;
+            let mut said = lines.split_inclusive('\n');
+            for ((number, file), Report { line, .. }) in (first..).zip(&files).zip(&reports) {
                 let said = said.next().unwrap_or_default();
                 if said != line {
                     fs::rename(file, KEPT).map_err(at(file))?;
@@ -139,6 +140,12 @@ impl Comparison {
             }
             if let Some(more) = said.next() {
                 return Err(differs("after the last image", "", more));
+            }
+            // The first that is not 0, and every image here has such a one.
+            let expected = reports.first().map_or(0, Report::status);
+            if status != expected {
+                let [expected, status] = [expected, status].map(|status| status.to_string());
+                return Err(differs("the exit status", &expected, &status));
             }
         }
         Ok(())
@@ -153,28 +160,49 @@ impl Comparison {
             row.print(kind.name);
         }
         self.all.print("all");
-        let fewest = document::all().map(|entry| self.made[usize::from(entry.opcode)]);
+        let fewest = rules::all().map(|entry| self.made[usize::from(entry.opcode)]);
         println!(
             "each of the 151 opcodes was stepped at least {} times; {} of the lines are different ones",
             fewest.min().unwrap_or(0),
             self.lines.len()
         );
-        println!("listed: {}", known::MODIFY_OVER_A_PAGE);
-        println!(
-            "  taken off the Rust's cycles at {} steps, on {} images",
-            self.listed_steps, self.listed_images
-        );
+        for ((_, sentence), (images, steps)) in known::ALL.iter().zip(self.listed) {
+            println!("listed: {sentence}");
+            println!("  put right in the Rust's state at {steps} steps, on {images} images");
+        }
         println!("{} images: the lines are equal", self.all.images);
     }
 }
 
-/// The program's lines on these files, the first on standard input.
-fn ask(files: &[PathBuf]) -> Result<String, Fault> {
+/// What a call of the program gave.
+struct Said {
+    lines: String,
+    status: u8,
+}
+
+/// Passes on what `run` itself says, and gives the program's sentences.
+fn sentences(told: impl Read) -> io::Result<Vec<String>> {
+    let mut sentences = Vec::new();
+    for line in BufReader::new(told).lines() {
+        let line = line?;
+        if line.starts_with("run: ") {
+            eprintln!("{line}");
+        } else {
+            sentences.push(line);
+        }
+    }
+    Ok(sentences)
+}
+
+/// The program's lines on these files, the first on standard input. Each has a sentence, with its name before it.
+fn ask(files: &[PathBuf]) -> Result<Said, Fault> {
     let Some((first, others)) = files.split_first() else {
-        return Ok(String::new());
+        return Ok(Said {
+            lines: String::new(),
+            status: 0,
+        });
     };
     let front_door = Path::new("./run");
-    // At a terminal the program says in words what each line means: its standard error is to be none.
     let mut child = Command::new(front_door)
         .args(["report", "-"])
         .args(others)
@@ -183,17 +211,32 @@ fn ask(files: &[PathBuf]) -> Result<String, Fault> {
         .stderr(Stdio::piped())
         .spawn()
         .map_err(at(front_door))?;
-    let told = child.stderr.take();
-    let teller = thread::spawn(|| told.map(|mut told| io::copy(&mut told, &mut io::stderr())));
+    let told = child.stderr.take().expect("a pipe was asked for");
+    let teller = thread::spawn(|| sentences(told));
     let output = child.wait_with_output().map_err(at(front_door))?;
-    // What it cannot tell is lost, and nothing else.
-    let _ = teller.join();
-    let what = format!("./run report: {}", output.status);
-    match output.status.code() {
-        Some(0) => Ok(String::from_utf8_lossy(&output.stdout).into_owned()),
-        Some(2) => Err(Fault::NoLines(2, what)),
-        _ => Err(Fault::NoLines(1, what)),
+    let told = teller.join().expect("it does not panic");
+    let told = told.map_err(at(front_door))?;
+    let status = match output.status.code().map(u8::try_from) {
+        // The answers, and the run that is still running: the others say that something is missing or was lost.
+        Some(Ok(status @ 0..=20)) => status,
+        code => {
+            let what = format!("./run report: {}: {told:?}", output.status);
+            let missing = matches!(code, Some(Ok(66 | 69)));
+            return Err(Fault::NoLines(if missing { 2 } else { 1 }, what));
+        }
+    };
+    let names = others.iter().map(|file| file.display().to_string());
+    let names = std::iter::once("standard input".to_string()).chain(names);
+    for (number, name) in names.enumerate() {
+        let sentence = told.get(number).map_or("", String::as_str);
+        if !sentence.starts_with(&format!("{name}: ")) {
+            return Err(differs("a sentence", &format!("{name}: .."), sentence));
+        }
     }
+    Ok(Said {
+        lines: String::from_utf8_lossy(&output.stdout).into_owned(),
+        status,
+    })
 }
 
 /// The lines that the gate expects on its stored images are the Rust's too.

@@ -17,10 +17,11 @@ for argument in "$@"; do
 done
 cd "$(dirname "$0")/.." || exit 2
 
-# A program for another machine takes that machine's linker, and an emulator to run it.
-cross='' emulator=''
+# A program for another machine takes that machine's C compiler, which links too, and an emulator to run it.
+cross='' emulator='' compiler=cc
 if [ "$machine" != "$(uname -m)" ]; then
-    cross="--target $machine-unknown-linux-gnu -C linker=$machine-linux-gnu-gcc"
+    compiler=$machine-linux-gnu-gcc
+    cross="--target $machine-unknown-linux-gnu -C linker=$compiler"
     emulator=qemu-$machine
 fi
 
@@ -66,31 +67,52 @@ need_rt() {
     command -v rt >/dev/null || stop 2 "the Rattle toolchain is missing: there is no command 'rt' on the PATH"
 }
 
-# The port's archive, proved and built anew where none is given and it is missing or older than a source.
+# renew ARCHIVE COMMAND: has it proved and built anew where it is missing or older than a source.
+renew() {
+    if [ ! -f "$1" ] || [ -n "$(find crates crates.txt -newer "$1" | head -n 1)" ]; then
+        need_rt
+        echo "host/$name: $2" >&2
+        # run takes the same lock, so that no two prove in one target/ at once. The command is split into its words.
+        # shellcheck disable=SC2086
+        flock crates.txt $2 >&2 || stop 1 "$2 did not build $1"
+    fi
+}
+
+# The port's archive, where none is given.
 find_archive() {
     if [ -z "$archive" ]; then
         case $machine in
         x86_64) archive=target/staticlib/libmos6502.a builder='rt staticlib mos6502' ;;
         *) archive=$out/libmos6502.a builder=host/native-archive ;;
         esac
-        if [ ! -f "$archive" ] || [ -n "$(find crates crates.txt -newer "$archive" | head -n 1)" ]; then
-            need_rt
-            echo "host/$name: $builder" >&2
-            $builder >&2 || stop 1 "$builder did not build $archive"
-        fi
+        renew "$archive" "$builder"
     fi
     [ -f "$archive" ] || stop 2 "there is no archive $archive"
 }
 
 build_port() {
     find_archive
-    rust libport.rlib host/port/lib.rs --crate-type rlib --crate-name port
+    rust libsaxundeer.rlib host/saxundeer/src/lib.rs --crate-type rlib --crate-name saxundeer
 }
 
-# program NAME: one of the programs that run both cores.
+# program NAME OPTION...: one of the programs that run both cores.
 program() {
-    rust "$1" "host/$1.rs" --extern mos6502="$out/libmos6502.rlib" --extern oracle="$out/liboracle.rlib" \
-        --extern port="$out/libport.rlib" -C link-arg="$archive"
+    program=$1
+    shift
+    rust "$program" "host/$program.rs" "$@" --extern mos6502="$out/libmos6502.rlib" --extern oracle="$out/liboracle.rlib" \
+        --extern saxundeer="$out/libsaxundeer.rlib" -C link-arg="$archive"
+}
+
+# build_tapes ARCHIVE: the program that compares the tapes with srecord. It sets `tapes` to the archive, which is the proved
+# one where the argument is empty.
+build_tapes() {
+    tapes=$1
+    if [ -z "$tapes" ]; then
+        tapes=target/staticlib/libtapes_c.a
+        renew "$tapes" 'rt staticlib tapes_c'
+    fi
+    [ -f "$tapes" ] || stop 2 "there is no archive $tapes"
+    rust tapes host/tapes.rs --extern oracle="$out/liboracle.rlib" -C link-arg="$tapes"
 }
 
 # What the archive is: it names the logic that proved it, and only rt writes that mark.

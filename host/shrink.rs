@@ -2,10 +2,10 @@
 
 use oracle::case::Case;
 
-use crate::pair::{Fault, fault_of};
+use crate::pair::{Fault, Plant, fault_of};
 
 /// The same fault's smallest input; as it came where it does not show on an otherwise empty memory.
-pub fn shrunk(fault: Fault, plant: bool) -> Fault {
+pub fn shrunk(fault: Fault, plant: Plant) -> Fault {
     let smallest = fault.case.as_ref().map(Case::smallest);
     let found = smallest.and_then(|case| fault_of(&case, plant).map(|what| (case, what)));
     let Some((mut case, mut what)) = found else {

@@ -1,7 +1,7 @@
 //! The port's machine as the state that the Rust's is compared with, and back.
 
 use oracle::state::State;
-use port::{Machine, Registers, StackPointer, Status};
+use saxundeer::{Machine, Registers, StackPointer, Status};
 
 pub fn machine_of(state: &State) -> Machine {
     Machine {

@@ -5,10 +5,10 @@ use std::process::ExitCode;
 
 use oracle::case::Case;
 use oracle::core::{Access, Core};
-use oracle::document;
 use oracle::edges;
 use oracle::known;
 use oracle::random::Random;
+use oracle::rules::{self, Entry};
 use oracle::sums;
 
 use oracle::options::Options;
@@ -34,7 +34,7 @@ impl Choice {
     }
 
     fn offer(&mut self, case: Case, random: &mut Random) {
-        if known::is_listed(&case) {
+        if known::cause(&case).is_some() {
             return;
         }
         self.seen += 1;
@@ -52,9 +52,13 @@ impl Choice {
 /// So many random cases of each opcode, then so many of each class of edges and of the sums.
 fn chosen(random: &mut Random, of_opcode: usize, of_class: usize) -> Vec<Case> {
     let mut cases = Vec::new();
-    for entry in document::all() {
+    for entry in rules::all() {
         let drawn = std::iter::repeat_with(|| random.case(entry));
-        cases.extend(drawn.filter(|case| !known::is_listed(case)).take(of_opcode));
+        cases.extend(
+            drawn
+                .filter(|case| known::cause(case).is_none())
+                .take(of_opcode),
+        );
     }
     let mut choices = [(); CLASSES].map(|()| Choice::new(of_class));
     let mut draw = Random::new(random.draw());
@@ -69,6 +73,18 @@ fn chosen(random: &mut Random, of_opcode: usize, of_class: usize) -> Vec<Case> {
         Ok::<(), Infallible>(())
     });
     cases.extend(choices.into_iter().flat_map(|choice| choice.cases));
+    cases
+}
+
+/// As many as are wanted: of some classes most steps are listed differences, and one more of each opcode comes in turn.
+fn enough(mut cases: Vec<Case>, wanted: usize, random: &mut Random) -> Vec<Case> {
+    let opcodes: Vec<Entry> = rules::all().collect();
+    while cases.len() < wanted {
+        let case = random.case(opcodes[cases.len() % opcodes.len()]);
+        if known::cause(&case).is_none() {
+            cases.push(case);
+        }
+    }
     cases
 }
 
@@ -95,7 +111,8 @@ fn write(options: &Options) -> Result<String, String> {
     let of_opcode = count.div_ceil(2 * 151).max(1);
     let of_class = count.div_ceil(2 * CLASSES).max(1);
     let mut text = String::new();
-    for mut case in chosen(&mut random, of_opcode, of_class) {
+    let cases = chosen(&mut random, of_opcode, of_class);
+    for mut case in enough(cases, count, &mut random) {
         case.state.cycles = if random.below(2) == 0 {
             0
         } else {

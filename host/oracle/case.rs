@@ -3,8 +3,8 @@
 use std::fmt::{Display, Formatter, Result};
 
 use crate::core::Access;
-use crate::document::{self, Entry};
 use crate::random::Random;
+use crate::rules::{self, Entry};
 use crate::state::State;
 
 #[derive(Clone)]
@@ -61,7 +61,7 @@ impl Case {
 
     #[must_use]
     pub fn entry(&self) -> Option<Entry> {
-        document::entry(self.byte(self.state.counter))
+        rules::entry(self.byte(self.state.counter))
     }
 
     /// Gives every byte that the step reads and that was not put a random value, pointers first.

@@ -1,9 +1,11 @@
 //! The directed inputs: the places where an address, a counter or a sum turns over, each tried with every opcode that
 //! can come there. What a class leaves open is random.
 
+use std::ops::RangeInclusive;
+
 use crate::case::Case;
-use crate::document::{self, Entry, Kind, Mode};
 use crate::random::Random;
+use crate::rules::{self, Entry, Kind, Mode};
 
 #[derive(Clone, Copy)]
 pub enum Class {
@@ -16,9 +18,14 @@ pub enum Class {
     StackPage,
     OwnBytes,
     Breaks,
+    CallFirstPush,
+    CallSecondPush,
+    CallPageStart,
+    CallPageEnd,
+    CallElsewhere,
 }
 
-pub const CLASSES: [(Class, &str); 9] = [
+pub const CLASSES: [(Class, &str); 14] = [
     (Class::Counter, "counter FFFC to 0002"),
     (Class::Stack, "S 00 01 02 FD FE FF"),
     (Class::ZeroPage, "zero page FE FF 00"),
@@ -28,6 +35,11 @@ pub const CLASSES: [(Class, &str); 9] = [
     (Class::StackPage, "code in the stack page"),
     (Class::OwnBytes, "stores onto own bytes"),
     (Class::Breaks, "BRK at edges"),
+    (Class::CallFirstPush, "JSR under its 1st push"),
+    (Class::CallSecondPush, "JSR under its 2nd push"),
+    (Class::CallPageStart, "  from the zero page"),
+    (Class::CallPageEnd, "  at the page's end"),
+    (Class::CallElsewhere, "JSR beside its pushes"),
 ];
 
 /// Takes a case; a fault ends the whole.
@@ -46,6 +58,23 @@ impl Class {
             Class::StackPage => stack_page(random, visit),
             Class::OwnBytes => own_bytes(random, visit),
             Class::Breaks => breaks(random, visit),
+            Class::CallFirstPush => calls(ALL, &[0], 16, random, visit),
+            Class::CallSecondPush => calls(ALL, &[1], 16, random, visit),
+            // The opcode, or that and the low byte, in the zero page.
+            Class::CallPageStart => calls([0x0100..=0x0101], &[0, 1], 2_048, random, visit),
+            // The second push lands there after S has turned over.
+            Class::CallPageEnd => calls([0x01FF..=0x01FF], &[0, 1], 4_096, random, visit),
+            Class::CallElsewhere => {
+                calls(ALL, &[0xFF, 2], 4, random, visit)?;
+                // The same low bytes in other pages: after this one, and where the counter turns over.
+                calls(
+                    [0x0200..=0x0201, 0x0000..=0x0002],
+                    &[0, 1],
+                    512,
+                    random,
+                    visit,
+                )
+            }
         }
     }
 }
@@ -61,7 +90,7 @@ fn uses_stack(entry: &Entry) -> bool {
 }
 
 fn has_mode(modes: &'static [Mode]) -> impl Iterator<Item = Entry> {
-    document::all().filter(|entry| modes.contains(&entry.mode))
+    rules::all().filter(|entry| modes.contains(&entry.mode))
 }
 
 /// A case with what is still open filled in.
@@ -72,7 +101,7 @@ fn filled(mut case: Case, code: &[u8], random: &mut Random) -> Case {
 }
 
 fn counter<Fault>(random: &mut Random, visit: &mut Visit<Fault>) -> Result<(), Fault> {
-    for entry in document::all() {
+    for entry in rules::all() {
         for counter in COUNTERS {
             for _ in 0..64 {
                 let mut case = Case::new(random.state());
@@ -85,7 +114,7 @@ fn counter<Fault>(random: &mut Random, visit: &mut Visit<Fault>) -> Result<(), F
 }
 
 fn stack<Fault>(random: &mut Random, visit: &mut Visit<Fault>) -> Result<(), Fault> {
-    for entry in document::all().filter(uses_stack) {
+    for entry in rules::all().filter(uses_stack) {
         for stack in STACKS {
             for _ in 0..512 {
                 let mut case = Case::new(random.state());
@@ -191,7 +220,7 @@ fn indirect_jumps<Fault>(random: &mut Random, visit: &mut Visit<Fault>) -> Resul
 
 /// Code at every place of the stack's page, with S near it: pushes hit the code, pulls read it.
 fn stack_page<Fault>(random: &mut Random, visit: &mut Visit<Fault>) -> Result<(), Fault> {
-    for entry in document::all() {
+    for entry in rules::all() {
         for place in 0..=0xFF {
             for distance in 0..9 {
                 // The other opcodes do not look at S: one distance is enough.
@@ -210,7 +239,7 @@ fn stack_page<Fault>(random: &mut Random, visit: &mut Visit<Fault>) -> Result<()
 
 /// A store to, or a change of, the instruction's own opcode and operands, by absolute addresses and in the zero page.
 fn own_bytes<Fault>(random: &mut Random, visit: &mut Visit<Fault>) -> Result<(), Fault> {
-    let stores = document::all().filter(|entry| matches!(entry.kind, Kind::Keep | Kind::Modify));
+    let stores = rules::all().filter(|entry| matches!(entry.kind, Kind::Keep | Kind::Modify));
     for entry in stores {
         for offset in 0..3 {
             for _ in 0..128 {
@@ -244,6 +273,31 @@ fn breaks<Fault>(random: &mut Random, visit: &mut Visit<Fault>) -> Result<(), Fa
                 case.state.stack = stack;
                 case.state.status = status;
                 visit(filled(case, &[0x00], random))?;
+            }
+        }
+    }
+    Ok(())
+}
+
+/// Every place of the stack's page.
+const ALL: [RangeInclusive<u16>; 1] = [0x0100..=0x01FF];
+
+/// A JSR whose high operand byte stands at these places, with S so far above their low bytes: at 0 the first push has the
+/// same low byte, at 1 the second.
+fn calls<Fault>(
+    places: impl IntoIterator<Item = RangeInclusive<u16>>,
+    distances: &[u8],
+    times: usize,
+    random: &mut Random,
+    visit: &mut Visit<Fault>,
+) -> Result<(), Fault> {
+    for place in places.into_iter().flatten() {
+        for distance in distances {
+            for _ in 0..times {
+                let mut case = Case::new(random.state());
+                case.state.counter = place.wrapping_sub(2);
+                case.state.stack = (place as u8).wrapping_add(*distance);
+                visit(filled(case, &[0x20], random))?;
             }
         }
     }

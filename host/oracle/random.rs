@@ -2,7 +2,7 @@
 //! something ends or turns over.
 
 use crate::case::Case;
-use crate::document::Entry;
+use crate::rules::Entry;
 use crate::state::State;
 
 const BYTES: [u8; 12] = [

@@ -1,4 +1,4 @@
-//! Document 01's opcode table, written out from that document alone.
+//! The opcode table of docs/RULES.md, written out from the rules alone.
 
 use std::sync::LazyLock;
 
@@ -66,7 +66,7 @@ const SHIFTS: [(Mode, u8); 5] = [
     (Mode::AbsoluteX, 0x1E),
 ];
 
-/// The entries that document 01 lists one by one.
+/// The entries that the rules list one by one.
 const SINGLE: [(Kind, Mode, &[u8]); 24] = [
     // DEC, INC
     (Kind::Modify, Mode::ZeroPage, &[0xC6, 0xE6]),
@@ -145,17 +145,13 @@ static TABLE: LazyLock<[Option<Entry>; 256]> = LazyLock::new(|| {
     let mut table = [None; 256];
     for entry in entries() {
         let place = &mut table[usize::from(entry.opcode)];
-        assert!(
-            place.is_none(),
-            "document 01 has {:02X} twice",
-            entry.opcode
-        );
+        assert!(place.is_none(), "the rules have {:02X} twice", entry.opcode);
         *place = Some(entry);
     }
     table
 });
 
-/// What document 01 says of a byte: nothing if it is not among the 151.
+/// What the rules say of a byte: nothing if it is not among the 151.
 #[must_use]
 pub fn entry(opcode: u8) -> Option<Entry> {
     TABLE[usize::from(opcode)]

@@ -1,0 +1,118 @@
+//! The ways in which a host has the port make steps.
+
+use oracle::loops;
+use oracle::state::State;
+use saxundeer::{HIGHEST_BOUND, StepAnswer};
+
+use crate::states::{machine_of, state_of};
+
+unsafe extern "C" {
+    fn mos6502_step(
+        registers: *mut u64,
+        cycles: *mut u64,
+        first: *mut u16,
+        memory: *mut u8,
+        length: usize,
+    ) -> u8;
+    fn mos6502_run(
+        registers: *mut u64,
+        cycles: *mut u64,
+        steps: *mut u64,
+        bound: u64,
+        memory: *mut u8,
+        length: usize,
+    ) -> u8;
+}
+
+/// Makes so many steps on a memory, from the state at which the loops start.
+pub type Way = fn(&mut [u8], u64) -> Result<State, String>;
+
+/// In the order of the columns, with their heads.
+pub const ALL: [(&str, Way); 3] = [("run", by_run), ("step", by_step), ("crate", by_crate)];
+
+/// The state after the numbers that the C functions take.
+fn state_of_numbers(registers: u64, cycles: u64) -> State {
+    let [accumulator, x, y, stack, status, low, high, _] = registers.to_le_bytes();
+    State {
+        counter: u16::from_le_bytes([low, high]),
+        accumulator,
+        x,
+        y,
+        stack,
+        status,
+        cycles,
+    }
+}
+
+/// The number of the registers at which the loops start.
+fn start() -> u64 {
+    let State {
+        counter,
+        accumulator,
+        x,
+        y,
+        stack,
+        status,
+        ..
+    } = loops::START;
+    let [low, high] = counter.to_le_bytes();
+    u64::from_le_bytes([accumulator, x, y, stack, status, low, high, 0])
+}
+
+/// By `mos6502_run`, a million steps a call.
+pub fn by_run(memory: &mut [u8], steps: u64) -> Result<State, String> {
+    let (mut registers, mut cycles, mut made) = (start(), loops::START.cycles, 0);
+    while made < steps {
+        let bound = HIGHEST_BOUND.min(steps - made);
+        let mut part = 0;
+        // Sound: the numbers are this function's own, and the memory is lent to it.
+        let answer = unsafe {
+            mos6502_run(
+                &mut registers,
+                &mut cycles,
+                &mut part,
+                bound,
+                memory.as_mut_ptr(),
+                memory.len(),
+            )
+        };
+        if answer != 0 {
+            return Err(format!("mos6502_run answered {answer} after {made} steps"));
+        }
+        made += part;
+    }
+    Ok(state_of_numbers(registers, cycles))
+}
+
+/// By `mos6502_step`, one call a step, the registers kept as a number.
+pub fn by_step(memory: &mut [u8], steps: u64) -> Result<State, String> {
+    let (mut registers, mut cycles, mut first) = (start(), loops::START.cycles, 0);
+    for made in 0..steps {
+        // Sound: as above.
+        let answer = unsafe {
+            mos6502_step(
+                &mut registers,
+                &mut cycles,
+                &mut first,
+                memory.as_mut_ptr(),
+                memory.len(),
+            )
+        };
+        if answer != 0 {
+            return Err(format!("mos6502_step answered {answer} after {made} steps"));
+        }
+    }
+    Ok(state_of_numbers(registers, cycles))
+}
+
+/// By the Rust crate's step, the machine by value.
+pub fn by_crate(memory: &mut [u8], steps: u64) -> Result<State, String> {
+    let mut machine = machine_of(&loops::START);
+    for made in 0..steps {
+        match saxundeer::single_step(machine, memory) {
+            StepAnswer::Made { machine: after, .. } => machine = after,
+            other => return Err(format!("single_step answered {other:?} after {made} steps")),
+        }
+    }
+    Ok(state_of(&machine))
+}
