@@ -1,4 +1,5 @@
 // Text that is written, and the status.
+ghost use mathlib.Core.Path.{_≡_};
 use libc::STDERR_FILENO;
 use libc::STDOUT_FILENO;
 use statuses::WRONG_USAGE;
@@ -17,7 +18,9 @@ pub fn write_output(text: &[u8]) -> bool {
 }
 
 // Says what a program takes, and answers the status of wrong usage.
-pub fn refuse(sentence: &[u8]) -> u8 {
+pub fn refuse(sentence: &[u8]) -> u8
+    ensures { λ r. ⌜ r ≡ 64 ⌝ }
+{
     io::write_all(STDERR_FILENO, sentence);
     WRONG_USAGE
 }

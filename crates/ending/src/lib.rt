@@ -1,4 +1,6 @@
 // The end of a program that ran an image: the sentence about it, and its status.
+ghost use mathlib.Core.Path.{_≡_};
+ghost use Rattle.statuses.specs.Statuses.{endStatus};
 use console::say_of;
 use manual::Ended;
 use reporting::put_sentence;
@@ -6,7 +8,9 @@ use statuses::Goal;
 use statuses::end_status;
 
 // Says how the run of the image that an argument names ended, and answers the status. `image` is the one that the run left.
-pub fn say_ending(index: usize, goal: Goal, ended: Ended, image: &[u8]) -> u8 {
+pub fn say_ending(index: usize, goal: Goal, ended: Ended, image: &[u8]) -> u8
+    ensures { λ r. ⌜ r ≡ endStatus goal ended ⌝ }
+{
     // 80 is the most that a sentence can have: see `put_sentence`.
     let mut text = [0u8; 80];
     let size = put_sentence(&mut text, 0, goal, ended, image);

@@ -2,11 +2,11 @@
 ghost use Prim.Native.Nat.{_≤_};
 ghost use mathlib.Core.Path.{_≡_};
 ghost use Rattle.records.specs.Contents.{laid, outcome, readOnto};
-ghost use Rattle.tapes.specs.Tapes.{readTape};
+ghost use Rattle.tapes.specs.Tapes.{tapeOf, readTape};
 ghost use Rattle.tapes.specs.Items.{told};
 ghost use Rattle.loading.specs.Formats.{itemOf, headSize, contentsOf};
 ghost use Rattle.loading.specs.Following.{stopAt, nextOf};
-ghost use Rattle.loading.specs.Answers.{withMemory};
+ghost use Rattle.loading.specs.Answers.{verdictOf, withMemory};
 use manual::FULL_MEMORY;
 use records::rest;
 use records::skip_separators;
@@ -148,6 +148,14 @@ fn read(format: Format, text: &[u8], memory: &mut [u8]) -> Verdict
         return verdict;
     }
     lay(format, text, memory)
+}
+
+// What a reader would answer of a paper tape, which is read onto no memory.
+pub fn judge_tape(text: &[u8]) -> Verdict
+    ensures { λ r. ⌜ r ≡ verdictOf (now (text .entry)) (tapeOf (now (text .entry))) ⌝ }
+{
+    let mut nothing = [0u8; 0];
+    lay(Format::Tape, text, &mut nothing)
 }
 
 // Reads a paper tape onto a memory.

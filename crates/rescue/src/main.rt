@@ -6,23 +6,30 @@
 // kept where it is well formed, has the right sum and ends at FFFF or below. A sentence on standard error says how many were
 // kept and dropped, and after how many characters the first that was dropped begins, with the tape's name before it.
 //
-// Exit status: 0 nothing was dropped; 21 something was: the new tape is not the whole tape; 8 more than 65,535 records could
-// be kept, 10 the tape is too long, or what could be kept; nothing is written then; 64 wrong usage, 66 the tape cannot be
-// opened, 74 reading or writing failed.
+// A tape of which nothing was dropped may still not be whole: a record may be missing altogether. So the old tape is read too,
+// and where a reader refuses it a second sentence says why.
 //
-// What is saved, the sentence and the status are promised by the crates rescuing and statuses; here it is only read and
-// written.
+// Exit status: 0 nothing was dropped, and the old tape is good; 21 something was: the new tape is not the whole tape; 5 or 8
+// nothing was, but the old tape is refused, with 8 where it has no end record or one with another number: a part may be
+// missing; the new tape is written. 8 more than 65,535 records could be kept, 10 the tape is too long, or what could be kept;
+// nothing is written then; 64 wrong usage, 66 the tape cannot be opened, 74 reading or writing failed.
+//
+// What is saved, the sentences and the status are promised by the crates rescuing, loading and statuses; here it is only read
+// and written.
 use console::hand_over;
 use console::has_option;
 use console::refuse;
 use console::say_of;
 use console::write_output;
+use loading::Verdict;
+use loading::judge_tape;
 use rescuing::Rescued;
 use rescuing::put_sentence;
 use rescuing::rescue;
 use statuses::FAILED;
 use statuses::rescue_status;
 use tape_input::read_tape_input;
+use tape_input::say_verdict;
 use tapes::tape_buffer;
 
 // The argument that names the tape.
@@ -35,14 +42,23 @@ fn explain(rescued: Rescued) {
     say_of(TAPE, &text[..size]);
 }
 
+// Says why a reader refuses the old tape, where nothing else has told that it is not whole.
+fn explain_old(rescued: Rescued, verdict: Verdict) {
+    if rescued.answer == 0 && rescued.dropped == 0 && verdict.answer != 0 {
+        say_verdict(TAPE, verdict);
+    }
+}
+
 fn rescue_tape(tape: &[u8]) -> u8 {
     let mut text = tape_buffer();
     let rescued = rescue(tape, &mut text);
     let length = rescued.size;
     let written = write_output(&text[..length]);
     explain(rescued);
+    let verdict = judge_tape(tape);
+    explain_old(rescued, verdict);
     if written {
-        return rescue_status(rescued.answer, rescued.dropped);
+        return rescue_status(rescued.answer, rescued.dropped, verdict.answer);
     }
     FAILED
 }

@@ -8,7 +8,7 @@ use Rattle.text.specs.Numerals.{decimal}
 use Rattle.rescuing.specs.declared.Rescued.{Rescued}
 
 abbrev pub keptSentence : ℕ → List ℕ
-keptSentence kept = characters "done: all is kept, " ++ decimal kept ++ characters " records\n"
+keptSentence kept = characters "nothing was dropped: " ++ decimal kept ++ characters " records are kept\n"
 
 abbrev pub lostSentence : ℕ → ℕ → ℕ → List ℕ
 lostSentence kept dropped first =

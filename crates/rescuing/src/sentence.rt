@@ -10,9 +10,9 @@ fn put_all_kept(out: &mut [u8], at: usize, kept: u64) -> usize
     ensures { λ r. ⌜ Wrote (now (out .entry)) at (keptSentence kept) (now (out .exit)) r ⌝ }
     ensures { λ r. ⌜ r ≤ at + 128 ⌝ }
 {
-    let after_all = put_text(out, at, b"done: all is kept, ");
-    let after_kept = put_decimal(out, after_all, kept);
-    put_text(out, after_kept, b" records\n")
+    let after_nothing = put_text(out, at, b"nothing was dropped: ");
+    let after_kept = put_decimal(out, after_nothing, kept);
+    put_text(out, after_kept, b" records are kept\n")
 }
 
 fn put_lost(out: &mut [u8], at: usize, kept: u64, dropped: u64, first: usize) -> usize

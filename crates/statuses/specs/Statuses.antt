@@ -24,9 +24,9 @@ endStatus goal q = cond (reached goal q) 0 (cond (eqb (number (q .reason)) 0) 20
 abbrev pub checkStatus : ℕ → ℕ → ℕ
 checkStatus lines faults = cond (eqb lines 0) 1 (cond (eqb faults 0) 0 1)
 
--- 21: a rescued tape is not a whole tape
-abbrev pub rescueStatus : ℕ → ℕ → ℕ
-rescueStatus answer dropped = cond (eqb answer 0) (cond (eqb dropped 0) 0 21) answer
+-- 21: a rescued tape is not a whole tape. Where nothing was dropped the old one may still be cut off: then what its reader answers.
+abbrev pub rescueStatus : ℕ → ℕ → ℕ → ℕ
+rescueStatus answer dropped read = cond (eqb answer 0) (cond (eqb dropped 0) read 21) answer
 
 -- of two pieces of work, the first one's unless that is 0
 abbrev pub firstOf : ℕ → ℕ → ℕ

@@ -10,7 +10,7 @@ use Rattle.manual.specs.declared.Ended.{Ended}
 use Rattle.manual.specs.Outcomes.{number}
 use Rattle.statuses.specs.declared.Goal.{Goal}
 use Rattle.statuses.specs.declared.Goal.the-variants.{At}
-use Rattle.statuses.specs.Statuses.{reached, endStatus, firstOf}
+use Rattle.statuses.specs.Statuses.{reached, endStatus, rescueStatus, firstOf}
 
 module _ (goal : Goal) (q : Ended) where
   by-goal : (t u : Bool) → reached goal q ≡ t → eqb (number (q .reason)) 0 ≡ u → endStatus goal q ≡ 0 → reached goal q ≡ true
@@ -33,6 +33,16 @@ only-at address q h = by-tests (eqb (number (q .reason)) 3) (eqb (q .machine .re
     by-tests true true e f g = (eqb-true (number (q .reason)) 3 e, eqb-true (q .machine .registers .counter) address f)
     by-tests true false e f g = let z : false ≡ true = rw (e, f) at g in absurd (let y : _≡_ {A = ℕ} 0 1 = cc in omega arith)
     by-tests false u e f g = let z : false ≡ true = rw e at g in absurd (let y : _≡_ {A = ℕ} 0 1 = cc in omega arith)
+
+-- A rescue's status is 0 only where it was not refused, nothing was dropped, and the old tape is one that is read.
+pub only-whole : (answer dropped read : ℕ) → rescueStatus answer dropped read ≡ 0 → (answer ≡ 0) × (dropped ≡ 0) × (read ≡ 0)
+only-whole answer dropped read h = by-tests (eqb answer 0) (eqb dropped 0) refl refl h
+  where
+    by-tests : (t u : Bool) → eqb answer 0 ≡ t → eqb dropped 0 ≡ u → rescueStatus answer dropped read ≡ 0
+        → (answer ≡ 0) × (dropped ≡ 0) × (read ≡ 0)
+    by-tests true true e f g = (eqb-true answer 0 e, eqb-true dropped 0 f, rw (e, f) at g)
+    by-tests true false e f g = absurd (omega (arith, rw (e, f) at g))
+    by-tests false u e f g = absurd (eqb-false answer 0 e (rw e at g))
 
 -- what a program that works through a list hands over
 abbrev pub firstOfAll : ℕ → List ℕ → ℕ

@@ -73,15 +73,16 @@ pub fn check_status(lines: u64, faults: u64) -> u8
     1
 }
 
-// The status of a tape that was rescued: 0 only where nothing was dropped, and otherwise its answer number, or 21 for 0.
-pub fn rescue_status(answer: u8, dropped: u64) -> u8
-    ensures { λ r. ⌜ r ≡ rescueStatus answer dropped ⌝ }
+// The status of a tape that was rescued: 0 only where nothing was dropped and a reader takes the old tape too. Otherwise the
+// rescue's answer number, 21 where something was dropped, or the reader's answer: a record that is missing was not dropped.
+pub fn rescue_status(answer: u8, dropped: u64, read: u8) -> u8
+    ensures { λ r. ⌜ r ≡ rescueStatus answer dropped read ⌝ }
 {
     if answer != 0 {
         return answer;
     }
     if dropped == 0 {
-        return 0;
+        return read;
     }
     SOMETHING_LOST
 }

@@ -18,27 +18,18 @@ use crate::line::put_line;
 use console::hand_over;
 use console::has_option;
 use console::refuse;
-use console::say_of;
 use console::write_output;
 use loading::Verdict;
-use loading::put_sentence;
-use loading::read_tape;
-use memory::image_buffer;
+use loading::judge_tape;
 use rescuing::Rescued;
 use rescuing::rescue;
 use statuses::FAILED;
 use statuses::first_of;
 use tape_input::read_tape_input;
+use tape_input::say_verdict;
 use tapes::tape_buffer;
 
 mod line; // line.rt: the line of a tape
-
-// 128 is the most that a sentence can have: see `put_sentence`.
-fn explain(index: usize, verdict: Verdict) {
-    let mut text = [0u8; 128];
-    let size = put_sentence(&mut text, 0, verdict);
-    say_of(index, &text[..size]);
-}
 
 // 113 is the most that a line can have: see `put_line`.
 fn print_line(verdict: Verdict, rescued: Rescued) -> bool {
@@ -47,22 +38,16 @@ fn print_line(verdict: Verdict, rescued: Rescued) -> bool {
     write_output(&text[..size])
 }
 
-// The tape is read onto a full memory, so that the answer is about the tape alone.
-fn read_onto_zeros(tape: &[u8]) -> Verdict {
-    let mut image = image_buffer();
-    read_tape(tape, &mut image[..65536])
-}
-
 fn rescue_for_counts(tape: &[u8]) -> Rescued {
     let mut text = tape_buffer();
     rescue(tape, &mut text)
 }
 
 fn survey_tape(index: usize, tape: &[u8]) -> u8 {
-    let verdict = read_onto_zeros(tape);
+    let verdict = judge_tape(tape);
     let rescued = rescue_for_counts(tape);
     let written = print_line(verdict, rescued);
-    explain(index, verdict);
+    say_verdict(index, verdict);
     if written {
         return verdict.answer;
     }

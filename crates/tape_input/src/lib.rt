@@ -1,8 +1,10 @@
-// The tape that an argument names.
+// The tape that an argument names: it is read, and what a reader found is said of it.
 ghost use Rattle.io.specs.Counts.{Counts};
 use console::Input;
 use console::read_input;
 use console::say_of;
+use loading::Verdict;
+use loading::put_sentence;
 
 // The status of a tape that does not fit.
 const TOO_LONG: u8 = 10;
@@ -23,4 +25,11 @@ pub fn read_tape_input(index: usize, tape: &mut [u8]) -> Input
         };
     }
     input
+}
+
+// Says what a reader found. 128 is the most that a sentence can have: see `put_sentence`.
+pub fn say_verdict(index: usize, verdict: Verdict) {
+    let mut text = [0u8; 128];
+    let size = put_sentence(&mut text, 0, verdict);
+    say_of(index, &text[..size]);
 }

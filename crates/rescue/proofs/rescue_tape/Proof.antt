@@ -10,4 +10,4 @@ slice-aggregate-write-output : tie.Need-slice-aggregate-write-output
 slice-aggregate-write-output c = sym (length-take-le _ _ (omega (arith, c .before .before .rescue .ensures .1)))
 
 pub rescue-tape-spec : {M : Type 1} → statement M
-rescue-tape-spec = tie.close (tie.spec (search needs) (search needs) (search needs) (search needs) slice-aggregate-write-output (search needs) (search needs) (search needs) (search needs) (search needs))
+rescue-tape-spec = tie.close (tie.spec (search needs) (search needs) (search needs) (search needs) slice-aggregate-write-output (search needs) (search needs) (search needs) (search needs) (search needs) (search needs) (search needs))
