@@ -8,9 +8,9 @@ use lib.ListN.{length, drop}
 use borrow.Author.Tests.{lt-ltb, le-ltb}
 use Rattle.records.specs.Contents.{Stretch, Item, stretch, finish, bad}
 use Rattle.records.specs.Gaps.{gapEnd}
-use Rattle.tapes.specs.declared.Item.{Item as Told}
-use Rattle.tapes.specs.declared.Item.the-variants.{Data, End, Bad}
-use Rattle.tapes.specs.Items.{told, told-bad, told-end, told-data}
+use Rattle.records.specs.declared.Item.{Item as Told}
+use Rattle.records.specs.declared.Item.the-variants.{Data, End, Bad}
+use Rattle.records.specs.Items.{told, told-bad, told-end, told-data}
 use Rattle.loading.specs.declared.Format.{Format}
 use Rattle.loading.specs.declared.Next.{Next}
 use Rattle.loading.specs.declared.Next.the-variants.{Data as Ahead, Stop}

@@ -1,23 +1,25 @@
--- The formats, so that code which serves each of them has one promise.
+-- The formats, so that code which serves both has one promise.
 use Prim.Native.Nat.{ℕ, _+_, _*_, _≤_}
-use mathlib.Core.Path.{_≡_, refl, ap, _∙_}
+use mathlib.Core.Path.{_≡_, ap, _∙_}
 use mathlib.Core.List.{List, _++_, append-assoc}
 use native.Mathlib.Omega.{arith}
 use lib.ListN.{length, drop, length-append}
-use Rattle.text.specs.Numerals.{hex4}
+use Rattle.text.specs.Numerals.{hex2, hex4}
 use Rattle.records.specs.Records.{hexes}
 use Rattle.records.specs.Contents.{Stretch, Item, stretch, finish, Contents, contents}
 use Rattle.records.specs.Grammar.{Fit}
 use Rattle.tapes.specs.Tapes.{tapeItem}
 use Rattle.tapes.specs.Grammar.{sumOf}
-use Rattle.tapes.specs.declared.Item.{Item as Told}
-use Rattle.tapes.specs.Items.{told}
 use Rattle.tapes.specs.Lawful.{tape-lawful}
+use Rattle.intelhex.specs.IntelHex.{hexItem}
+use Rattle.intelhex.specs.Grammar.{body, check}
+use Rattle.intelhex.specs.Lawful.{hex-lawful}
 use Rattle.loading.specs.declared.Format.{Format}
-use Rattle.loading.specs.declared.Format.the-variants.{Tape}
+use Rattle.loading.specs.declared.Format.the-variants.{Tape, Hex}
 
 abbrev pub itemOf : Format → ℕ → List ℕ → Item
 itemOf Tape before s = tapeItem before s
+itemOf Hex before s = hexItem before s
 
 abbrev pub contentsOf : Format → List ℕ → Contents
 contentsOf f s = contents (itemOf f) 0 0 s
@@ -25,9 +27,11 @@ contentsOf f s = contents (itemOf f) 0 0 s
 -- how many bytes stand before the data
 abbrev pub headSize : Format → ℕ
 headSize Tape = 3
+headSize Hex = 4
 
 pub head-small : (f : Format) → headSize f ≤ 4
 head-small Tape = omega arith
+head-small Hex = omega arith
 
 -- What is known of a data record that begins a text: its data stand after the head, and all of it is there.
 pub record Known (f : Format) (t : List ℕ) (r : Stretch) : Type 0 where
@@ -47,16 +51,22 @@ known Tape k t r g =
           ∙ append-assoc (hexes (r .bytes)) (hex4 (sumOf (r .first) (r .bytes))) (drop (11 + 2 * length (r .bytes)) t);
       room = omega (arith, ap length (back .2), length-append (back .0) (drop (11 + 2 * length (r .bytes)) t), tape-lawful .data-placed k r (back .0) (back .1) .long);
     }
+known Hex k t r g =
+    let back = hex-lawful .data-back k r t g in
+    record {
+      fit = back .1 .0;
+      rest = hex2 (check (body 0 (r .first) (r .bytes))) ++ drop (11 + 2 * length (r .bytes)) t;
+      digits =
+          ap (drop 9) (back .2 ∙ ap (λ (d : List ℕ). d ++ drop (11 + 2 * length (r .bytes)) t) (back .1 .2))
+          ∙ append-assoc (hexes (r .bytes)) (hex2 (check (body 0 (r .first) (r .bytes)))) (drop (11 + 2 * length (r .bytes)) t);
+      room = omega (arith, ap length (back .2), length-append (back .0) (drop (11 + 2 * length (r .bytes)) t), hex-lawful .data-placed k r (back .0) (back .1) .long);
+    }
 
 -- an end record has its 11 characters
 pub end-room : (f : Format) (k : ℕ) (t : List ℕ) → itemOf f k t ≡ finish → 11 ≤ length t
 end-room Tape k t g =
     let back = tape-lawful .end-back k t g in
     omega (arith, ap length (back .2), length-append (back .0) (drop 11 t), tape-lawful .end-placed k (back .0) (back .1) .long)
-
--- What the code reads of the only format.
-pub item-in : (f : Format) (k : ℕ) (t : List ℕ) {i : Told} → i ≡ told (tapeItem k t) → i ≡ told (itemOf f k t)
-item-in Tape k t e = e
-
-pub head-in : (f : Format) → 3 ≡ headSize f
-head-in Tape = refl
+end-room Hex k t g =
+    let back = hex-lawful .end-back k t g in
+    omega (arith, ap length (back .2), length-append (back .0) (drop 11 t), hex-lawful .end-placed k (back .0) (back .1) .long)

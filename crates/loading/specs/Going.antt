@@ -3,6 +3,7 @@ use Prim.Native.Nat.{ℕ, _+_, _-_, _*_, _<_, _≤_}
 use mathlib.Core.Path.{_≡_, refl, ap, sym, _∙_}
 use mathlib.Core.Bool.{Bool, true, false, cond}
 use mathlib.Core.List.{List, _++_}
+use mathlib.Core.Option.{some}
 use native.Mathlib.Omega.{arith}
 use lib.Dec.{ltb}
 use lib.ListN.{length, getD, drop, length-drop}
@@ -10,7 +11,7 @@ use lib.Seq.{sets, drop-drop, getD-drop}
 use borrow.Author.Tests.{ltb-true, ltb-false}
 use Rattle.manual.specs.Stepping.{fullMemory}
 use Rattle.reading.specs.Numbers.{nowhere}
-use Rattle.records.specs.Records.{separator, hexes}
+use Rattle.records.specs.Records.{separator, bytesOf, hexes}
 use Rattle.records.specs.Reading.{valuesAt}
 use Rattle.records.specs.Contents.{Stretch, Item, stretch, finish, bad, Contents, stop, andThen, ended, contents, Loaded, laid, outcome, readOnto}
 use Rattle.records.specs.Onto.{read-bad, read-good}
@@ -22,7 +23,7 @@ use Rattle.loading.specs.declared.Format.{Format}
 use Rattle.loading.specs.declared.Verdict.{Verdict}
 use Rattle.loading.specs.declared.Next.{Next}
 use Rattle.loading.specs.declared.Next.the-variants.{Data as Ahead, Stop}
-use Rattle.loading.specs.Formats.{itemOf, headSize, known, end-room}
+use Rattle.loading.specs.Formats.{itemOf, headSize, head-small, known, end-room}
 use Rattle.loading.specs.Answers.{withMemory}
 use Rattle.loading.specs.Following.{stopAt, nextBy, nextOf}
 
@@ -35,6 +36,9 @@ pub record Stops (f : Format) (s : List ℕ) (at before : ℕ) (v : Verdict) : T
 pub record Comes (f : Format) (s : List ℕ) (at before w n digits after : ℕ) : Type 0 where
   pub goes-on : contents (itemOf f) 0 before (drop at s)
       ≡ andThen (record { first = w; bytes = valuesAt n (drop digits s) 0 }) (contents (itemOf f) 0 (before + 1) (drop after s))
+  pub read : bytesOf n (drop digits s) ≡ some (valuesAt n (drop digits s) 0)
+  pub marked : 0 < digits
+  pub room : digits + 2 * n ≤ length s
   pub further : at < after
   pub inside : after ≤ length s
 
@@ -99,11 +103,15 @@ module _ (f : Format) (s : List ℕ) (at before : ℕ) where
         let digits : drop (place + 1 + 2 * headSize f) s ≡ hexes (r .bytes) ++ its .rest =
         rw (far, ← drop-drop (1 + 2 * headSize f) place s) (its .digits) in
         let short : length (hexes (r .bytes) ++ its .rest) ≤ nowhere = rw (← digits) (simp length-drop (omega arith)) in
+        let spelled : bytesOf (length (r .bytes)) (hexes (r .bytes) ++ its .rest) ≡ some (r .bytes) = bytes-spelled (r .bytes) (its .rest) (its .fit .small) in
         let valued : valuesAt (length (r .bytes)) (drop (place + 1 + 2 * headSize f) s) 0 ≡ r .bytes =
-        rw digits (values (hexes (r .bytes) ++ its .rest) short (length (r .bytes)) 0 (r .bytes) (bytes-spelled (r .bytes) (its .rest) (its .fit .small))) in
+        rw digits (values (hexes (r .bytes) ++ its .rest) short (length (r .bytes)) 0 (r .bytes) spelled) in
         let after : place + (11 + 2 * length (r .bytes)) ≡ place + 11 + 2 * length (r .bytes) = omega arith in
         record {
           goes-on = skipped ∙ at-stretch (itemOf f) s place before h starts r e ∙ rw (after, valued);
+          read = rw (valued, digits) spelled;
+          marked = omega arith;
+          room = omega (arith, room, head-small f);
           further = omega arith;
           inside = room;
         }

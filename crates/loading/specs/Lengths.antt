@@ -1,36 +1,82 @@
 -- A sentence is short.
-use Prim.Native.Nat.{ℕ, _≤_, _<_}
+use Prim.Native.Nat.{ℕ, _+_, _≤_, _<_}
 use mathlib.Core.Bool.{Bool, true, false, cond}
-use mathlib.Core.List.{_++_}
+use mathlib.Core.List.{List, _++_}
 use native.Mathlib.Omega.{arith}
 use lib.Dec.{eqb}
 use lib.ListN.{length, length-append}
 use Rattle.laws.specs.Characters.{characters}
 use Rattle.text.specs.Numerals.{decimal}
-use Rattle.text.specs.Laws.{decimal-length}
+use Rattle.text.specs.Written.{Wrote}
+use Rattle.text.specs.Laws.{decimal-length, within}
+use Rattle.loading.specs.declared.Format.{Format}
+use Rattle.loading.specs.declared.Format.the-variants.{Tape, Hex}
 use Rattle.loading.specs.declared.Verdict.{Verdict}
-use Rattle.loading.specs.Sentence.{reason, badSentence}
+use Rattle.loading.specs.Sentence.{malformed, unended, reason, goodSentence, badSentence, sentence}
 
-reason-length : (answer : ℕ) → length (reason answer) ≤ 42
-reason-length answer = by-tests (eqb answer 5) (eqb answer 6) (eqb answer 7)
+-- the longest reason
+abbrev pub longest : Format → ℕ
+longest Tape = 42
+longest Hex = 71
+
+malformed-length : (f : Format) → length (malformed f) ≤ longest f
+malformed-length Tape = omega arith
+malformed-length Hex = omega arith
+
+unended-length : (f : Format) → length (unended f) ≤ longest f
+unended-length Tape = omega arith
+unended-length Hex = omega arith
+
+other-length : (f : Format) → 12 ≤ longest f
+other-length Tape = omega arith
+other-length Hex = omega arith
+
+reason-length : (f : Format) (answer : ℕ) → length (reason f answer) ≤ longest f
+reason-length f answer = by-tests (eqb answer 5) (eqb answer 6) (eqb answer 7)
   where
-    by-tests : (t u v : Bool)
-        → length (cond t (characters "malformed, cut short or a stray character\n") (cond u (characters "a wrong sum\n") (cond v (characters "past FFFF\n") (characters "no end record, or a wrong number in it\n"))))
-        ≤ 42
-    by-tests true u v = omega arith
-    by-tests false true v = omega arith
-    by-tests false false true = omega arith
-    by-tests false false false = omega arith
+    by-tests : (t u v : Bool) → length (cond t (malformed f) (cond u (characters "a wrong sum\n") (cond v (characters "past FFFF\n") (unended f)))) ≤ longest f
+    by-tests true u v = malformed-length f
+    by-tests false true v = omega (arith, other-length f)
+    by-tests false false true = omega (arith, other-length f)
+    by-tests false false false = unended-length f
 
-pub bad-length : (v : Verdict) → v .good < 18446744073709551616 → v .place < 18446744073709551616 → length (badSentence v) ≤ 128
-bad-length v g p =
-    let goods : length (decimal (v .good)) ≤ 20 = decimal-length 19 (v .good) (omega arith) in
-    let places : length (decimal (v .place)) ≤ 20 = decimal-length 19 (v .place) (omega arith) in
-    let why = reason-length (v .answer) in
-    omega (
-      arith,
-      length-append (decimal (v .good)) (characters " good records and "),
-      length-append (decimal (v .good) ++ characters " good records and ") (decimal (v .place)),
-      length-append (decimal (v .good) ++ characters " good records and " ++ decimal (v .place)) (characters " characters: "),
-      length-append (decimal (v .good) ++ characters " good records and " ++ decimal (v .place) ++ characters " characters: ") (reason (v .answer)),
-    )
+module _ (f : Format) (v : Verdict) (good< : v .good < 18446744073709551616) (place< : v .place < 18446744073709551616) where
+  good-length : length (goodSentence (v .good)) ≤ 85
+  good-length =
+      omega (
+        arith,
+        decimal-length 19 (v .good) (omega arith),
+        length-append (decimal (v .good)) (characters " records are good, the end record counted\n"),
+      )
+
+  bad-length : length (badSentence f v) ≤ 85 + longest f
+  bad-length =
+      omega (
+        arith,
+        decimal-length 19 (v .good) (omega arith),
+        decimal-length 19 (v .place) (omega arith),
+        reason-length f (v .answer),
+        length-append (decimal (v .good)) (characters " good records and "),
+        length-append (decimal (v .good) ++ characters " good records and ") (decimal (v .place)),
+        length-append (decimal (v .good) ++ characters " good records and " ++ decimal (v .place)) (characters " characters: "),
+        length-append (decimal (v .good) ++ characters " good records and " ++ decimal (v .place) ++ characters " characters: ") (reason f (v .answer)),
+      )
+
+  pub sentence-length : length (sentence f v) ≤ 85 + longest f
+  unfolding sentence
+  sentence-length = by-tests (eqb (v .answer) 0) (eqb (v .answer) 1)
+    where
+      by-tests : (t u : Bool)
+          → length (cond t (goodSentence (v .good)) (cond u (characters "refused: the image is not 65536 bytes long\n") (badSentence f v))) ≤ 85 + longest f
+      by-tests true u = omega (arith, good-length)
+      by-tests false true = omega arith
+      by-tests false false = bad-length
+
+-- the sentence, and its bound of 160 characters
+at-most : (f : Format) → 85 + longest f ≤ 160
+at-most Tape = omega arith
+at-most Hex = omega arith
+
+pub said : (f : Format) (v : Verdict) → v .good < 18446744073709551616 → v .place < 18446744073709551616
+    → {l l′ : List ℕ} {at next : ℕ} → Wrote l at (sentence f v) l′ next → Wrote l at (sentence f v) l′ next × (next ≤ at + 160)
+said f v g p w = (w, omega (arith, within w (sentence-length f v g p), at-most f))

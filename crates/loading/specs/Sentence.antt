@@ -5,24 +5,35 @@ use mathlib.Core.List.{List, _++_}
 use lib.Dec.{eqb}
 use Rattle.laws.specs.Characters.{characters}
 use Rattle.text.specs.Numerals.{decimal}
+use Rattle.loading.specs.declared.Format.{Format}
+use Rattle.loading.specs.declared.Format.the-variants.{Tape, Hex}
 use Rattle.loading.specs.declared.Verdict.{Verdict}
 
-abbrev pub reason : ℕ → List ℕ
-reason answer =
-    cond (eqb answer 5) (characters "malformed, cut short or a stray character\n")
+-- the answers 5 and 8
+abbrev pub malformed : Format → List ℕ
+malformed Tape = characters "malformed, cut short or a stray character\n"
+malformed Hex = characters "malformed, cut short, a stray character or a type other than 00 and 01\n"
+
+abbrev pub unended : Format → List ℕ
+unended Tape = characters "no end record, or a wrong number in it\n"
+unended Hex = characters "no end record, or more than 65535 data records\n"
+
+abbrev pub reason : Format → ℕ → List ℕ
+reason f answer =
+    cond (eqb answer 5) (malformed f)
     (cond (eqb answer 6) (characters "a wrong sum\n")
     (cond (eqb answer 7) (characters "past FFFF\n")
-    (characters "no end record, or a wrong number in it\n")))
+    (unended f)))
 
 abbrev pub goodSentence : ℕ → List ℕ
 goodSentence good = characters "done: all " ++ decimal good ++ characters " records are good, the end record counted\n"
 
-abbrev pub badSentence : Verdict → List ℕ
-badSentence v =
+abbrev pub badSentence : Format → Verdict → List ℕ
+badSentence f v =
     characters "refused after " ++ decimal (v .good) ++ characters " good records and " ++ decimal (v .place) ++ characters " characters: "
-    ++ reason (v .answer)
+    ++ reason f (v .answer)
 
-unfoldable pub sentence : Verdict → List ℕ
-sentence v =
+unfoldable pub sentence : Format → Verdict → List ℕ
+sentence f v =
     cond (eqb (v .answer) 0) (goodSentence (v .good))
-    (cond (eqb (v .answer) 1) (characters "refused: the image is not 65536 bytes long\n") (badSentence v))
+    (cond (eqb (v .answer) 1) (characters "refused: the image is not 65536 bytes long\n") (badSentence f v))

@@ -2,24 +2,27 @@
 ghost use Prim.Native.Nat.{_≤_};
 ghost use mathlib.Core.Path.{_≡_};
 ghost use Rattle.records.specs.Contents.{laid, outcome, readOnto};
+ghost use Rattle.records.specs.Items.{told};
 ghost use Rattle.tapes.specs.Tapes.{tapeOf, readTape};
-ghost use Rattle.tapes.specs.Items.{told};
+ghost use Rattle.intelhex.specs.IntelHex.{readHex};
 ghost use Rattle.loading.specs.Formats.{itemOf, headSize, contentsOf};
 ghost use Rattle.loading.specs.Following.{stopAt, nextOf};
 ghost use Rattle.loading.specs.Answers.{verdictOf, withMemory};
+ghost use Rattle.loading.specs.Texts.{formatOf, readText};
 use manual::FULL_MEMORY;
+use records::Item;
 use records::rest;
 use records::skip_separators;
 use records::store_bytes;
-use tapes::Item;
 
 mod sentence; // sentence.rt: what a reader found, in words
 
 pub use sentence::put_sentence;
 
-// The formats that are read; Intel HEX is to come (P4).
+// The formats: MOS paper tape, and Intel HEX.
 pub enum Format {
     Tape,
+    Hex,
 }
 
 // What a text was found to be: the answer, how many good records stand before the first bad one, and where that begins, the
@@ -31,7 +34,7 @@ pub struct Verdict {
 }
 
 // What comes next in a text: a data record, with the place of its data and that at which the text goes on, or none.
-enum Next {
+pub enum Next {
     Data {
         address: u16,
         count: u8,
@@ -47,15 +50,17 @@ fn read_item(format: Format, text: &[u8], before: u64) -> Item
 {
     match format {
         Format::Tape => tapes::read_item(text, before),
+        Format::Hex => intelhex::read_item(text, before),
     }
 }
 
-// How many bytes stand before the data of a record: its count and address.
+// How many bytes stand before the data of a record: its count and address, and in HEX its type.
 fn head_size(format: Format) -> usize
     ensures { λ r. ⌜ r ≡ headSize format ⌝ }
 {
     match format {
         Format::Tape => 3,
+        Format::Hex => 4,
     }
 }
 
@@ -71,7 +76,7 @@ fn stop(answer: u8, good: u64, place: usize) -> Next
 }
 
 // What comes next after so many data records, the last of which ends at a place.
-fn next_record(format: Format, text: &[u8], start: usize, before: u64) -> Next
+pub fn next_record(format: Format, text: &[u8], start: usize, before: u64) -> Next
     requires { ⌜ before ≤ start ⌝ }
     ensures { λ r. ⌜ r ≡ nextOf format (now (text .entry)) start before ⌝ }
 {
@@ -156,6 +161,34 @@ pub fn judge_tape(text: &[u8]) -> Verdict
 {
     let mut nothing = [0u8; 0];
     lay(Format::Tape, text, &mut nothing)
+}
+
+// The format of a text, by the mark of its first record. What has neither mark is read as a tape, and refused.
+pub fn format_of(text: &[u8]) -> Format
+    ensures { λ r. ⌜ r ≡ formatOf (now (text .entry)) ⌝ }
+{
+    let at = skip_separators(text, 0);
+    if text.len() <= at {
+        return Format::Tape;
+    }
+    if text[at] == b':' {
+        return Format::Hex;
+    }
+    Format::Tape
+}
+
+// Reads a text of either format onto a memory.
+pub fn read_text(text: &[u8], memory: &mut [u8]) -> Verdict
+    ensures { λ r. ⌜ withMemory r (now (memory .exit)) ≡ readText (now (text .entry)) (now (memory .entry)) ⌝ }
+{
+    read(format_of(text), text, memory)
+}
+
+// Reads Intel HEX onto a memory.
+pub fn read_hex(text: &[u8], memory: &mut [u8]) -> Verdict
+    ensures { λ r. ⌜ withMemory r (now (memory .exit)) ≡ readHex (now (text .entry)) (now (memory .entry)) ⌝ }
+{
+    read(Format::Hex, text, memory)
 }
 
 // Reads a paper tape onto a memory.

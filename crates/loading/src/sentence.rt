@@ -1,18 +1,42 @@
 // What a reader found, in words.
 ghost use Prim.Native.Nat.{_+_, _≤_};
 ghost use Rattle.text.specs.Written.{Wrote};
-ghost use Rattle.loading.specs.Sentence.{reason, goodSentence, badSentence, sentence};
+ghost use Rattle.loading.specs.Sentence.{malformed, unended, reason, goodSentence, badSentence, sentence};
+use crate::Format;
 use crate::Verdict;
 use text::put_decimal;
 use text::put_text;
 
+// The answer 5.
+fn put_malformed(out: &mut [u8], at: usize, format: Format) -> usize
+    ensures { λ r. ⌜ Wrote (now (out .entry)) at (malformed format) (now (out .exit)) r ⌝ }
+{
+    match format {
+        Format::Tape => put_text(out, at, b"malformed, cut short or a stray character\n"),
+        Format::Hex => put_text(
+            out,
+            at,
+            b"malformed, cut short, a stray character or a type other than 00 and 01\n",
+        ),
+    }
+}
+
+// The answer 8.
+fn put_unended(out: &mut [u8], at: usize, format: Format) -> usize
+    ensures { λ r. ⌜ Wrote (now (out .entry)) at (unended format) (now (out .exit)) r ⌝ }
+{
+    match format {
+        Format::Tape => put_text(out, at, b"no end record, or a wrong number in it\n"),
+        Format::Hex => put_text(out, at, b"no end record, or more than 65535 data records\n"),
+    }
+}
+
 // Why a text is bad.
-fn put_reason(out: &mut [u8], at: usize, answer: u8) -> usize
-    ensures { λ r. ⌜ Wrote (now (out .entry)) at (reason answer) (now (out .exit)) r ⌝ }
-    ensures { λ r. ⌜ r ≤ at + 42 ⌝ }
+fn put_reason(out: &mut [u8], at: usize, format: Format, answer: u8) -> usize
+    ensures { λ r. ⌜ Wrote (now (out .entry)) at (reason format answer) (now (out .exit)) r ⌝ }
 {
     if answer == 5 {
-        return put_text(out, at, b"malformed, cut short or a stray character\n");
+        return put_malformed(out, at, format);
     }
     if answer == 6 {
         return put_text(out, at, b"a wrong sum\n");
@@ -20,12 +44,11 @@ fn put_reason(out: &mut [u8], at: usize, answer: u8) -> usize
     if answer == 7 {
         return put_text(out, at, b"past FFFF\n");
     }
-    put_text(out, at, b"no end record, or a wrong number in it\n")
+    put_unended(out, at, format)
 }
 
 fn put_good(out: &mut [u8], at: usize, good: u64) -> usize
     ensures { λ r. ⌜ Wrote (now (out .entry)) at (goodSentence good) (now (out .exit)) r ⌝ }
-    ensures { λ r. ⌜ r ≤ at + 128 ⌝ }
 {
     let after_done = put_text(out, at, b"done: all ");
     let after_good = put_decimal(out, after_done, good);
@@ -36,22 +59,21 @@ fn put_good(out: &mut [u8], at: usize, good: u64) -> usize
     )
 }
 
-fn put_bad(out: &mut [u8], at: usize, verdict: Verdict) -> usize
-    ensures { λ r. ⌜ Wrote (now (out .entry)) at (badSentence verdict) (now (out .exit)) r ⌝ }
-    ensures { λ r. ⌜ r ≤ at + 128 ⌝ }
+fn put_bad(out: &mut [u8], at: usize, format: Format, verdict: Verdict) -> usize
+    ensures { λ r. ⌜ Wrote (now (out .entry)) at (badSentence format verdict) (now (out .exit)) r ⌝ }
 {
     let after_refused = put_text(out, at, b"refused after ");
     let after_good = put_decimal(out, after_refused, verdict.good);
     let after_records = put_text(out, after_good, b" good records and ");
     let after_place = put_decimal(out, after_records, verdict.place as u64);
     let after_characters = put_text(out, after_place, b" characters: ");
-    put_reason(out, after_characters, verdict.answer)
+    put_reason(out, after_characters, format, verdict.answer)
 }
 
-// Writes the sentence, which has at most 128 characters.
-pub fn put_sentence(out: &mut [u8], at: usize, verdict: Verdict) -> usize
-    ensures { λ r. ⌜ Wrote (now (out .entry)) at (sentence verdict) (now (out .exit)) r ⌝ }
-    ensures { λ r. ⌜ r ≤ at + 128 ⌝ }
+// Writes the sentence about a text of a format, which has at most 160 characters.
+pub fn put_sentence(out: &mut [u8], at: usize, format: Format, verdict: Verdict) -> usize
+    ensures { λ r. ⌜ Wrote (now (out .entry)) at (sentence format verdict) (now (out .exit)) r ⌝ }
+    ensures { λ r. ⌜ r ≤ at + 160 ⌝ }
 {
     let answer = verdict.answer;
     if answer == 0 {
@@ -60,5 +82,5 @@ pub fn put_sentence(out: &mut [u8], at: usize, verdict: Verdict) -> usize
     if answer == 1 {
         return put_text(out, at, b"refused: the image is not 65536 bytes long\n");
     }
-    put_bad(out, at, verdict)
+    put_bad(out, at, format, verdict)
 }

@@ -8,6 +8,7 @@ pub mod Finding
 pub mod Loops
 pub mod Scanning
 pub mod Whole
+pub mod Items
 pub mod Gaps
 pub mod Spelling
 pub mod Sums

@@ -1,5 +1,5 @@
 -- Contents read onto a memory: a law for each way out of a reader, and what the two kinds of answer mean. Once for every format.
-use Prim.Native.Nat.{ℕ}
+use Prim.Native.Nat.{ℕ, _+_, _-_}
 use mathlib.Core.Path.{_≡_, refl, ap}
 use mathlib.Core.Bool.{Bool, true, false, cond, not}
 use mathlib.Core.List.{List}
@@ -8,7 +8,8 @@ use lib.Dec.{eqb}
 use lib.ListN.{length}
 use borrow.Author.Tests.{eq-eqb, ne-eqb, eqb-true}
 use Rattle.manual.specs.Stepping.{fullMemory}
-use Rattle.records.specs.Contents.{Contents, Loaded, laid, outcome, readOnto}
+use Rattle.records.specs.Contents.{Stretch, Contents, Loaded, laid, outcome, readOnto}
+use Rattle.records.specs.Complete.{whole}
 
 module _ (s : List ℕ) (c : Contents) (m : List ℕ) where
   pub read-short : (length m ≡ fullMemory → ⊥) → record { answer = 1; good = 0; place = 0; memory = m } ≡ readOnto s c m
@@ -45,3 +46,13 @@ module _ (s : List ℕ) (c : Contents) (m : List ℕ) where
           → cond (not b) (record { answer = 1; good = 0; place = 0; memory = m }) (outcome s c (cond (eqb (c .answer) 0) (laid (c .records) m) m)) .memory ≡ m
       by-full true g = by-answer (eqb (c .answer) 0) refl g
       by-full false g = refl
+
+-- what a good text with the data records rs gives
+abbrev pub goodText : List ℕ → List Stretch → List ℕ → Loaded
+goodText s rs m = record { answer = 0; good = length rs + 1; place = length s; memory = laid rs m }
+
+pub read-whole : (s : List ℕ) (rs : List Stretch) (m : List ℕ) → length m ≡ fullMemory → readOnto s (whole 0 rs) m ≡ goodText s rs m
+read-whole s rs m h =
+    let all : length s - 0 ≡ length s = omega arith in
+    let counts : 0 + length rs + 1 ≡ length rs + 1 = omega arith in
+    rw (eq-eqb (length m) fullMemory h, all, counts)

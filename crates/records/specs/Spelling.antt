@@ -71,7 +71,7 @@ byte-back [] b e = absurd (none-some e)
 byte-back (c ∷ []) b e = absurd (none-some e)
 byte-back (c ∷ d ∷ s) b e = two-back (ltb (digitValue c) 16) (ltb (digitValue d) 16) c d b s refl refl e
 
-bytes-back : (n : ℕ) (s bs : List ℕ) → bytesOf n s ≡ some bs → s ≡ hexes bs ++ drop (2 * n) s
+pub bytes-back : (n : ℕ) (s bs : List ℕ) → bytesOf n s ≡ some bs → s ≡ hexes bs ++ drop (2 * n) s
 bytes-back zero s bs e = let same : bs ≡ [] = sym (some-same e) in rw same
 bytes-back (suc n) s [] e = let z = first-and-rest (byteOf s) (bytesOf n (drop 2 s)) [] e .2 in absurd (omega arith)
 bytes-back (suc n) s (b ∷ bs) e =

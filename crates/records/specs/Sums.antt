@@ -9,7 +9,7 @@ use native.Mathlib.Omega.{arith}
 use lib.ListN.{length, getD, take, drop, length-append, length-drop, take-append-drop}
 use lib.Seq.{length-take-le}
 use Rattle.text.specs.Numerals.{hex2}
-use Rattle.records.specs.Records.{recordOf, count, hexes, Bytes}
+use Rattle.records.specs.Records.{recordOf, count, total, hexes, Bytes}
 use Rattle.records.specs.Whole.{record-length, record-small}
 use Rattle.records.specs.Spelling.{record-spelled, record-back}
 
@@ -46,6 +46,10 @@ hexes-append (x ∷ a) b = ap (λ (t : List ℕ). hex2 x ++ t) (hexes-append a b
 pub hexes-length : (l : List ℕ) → length (hexes l) ≡ 2 * length l
 hexes-length [] = refl
 hexes-length (x ∷ l) = let rest = hexes-length l in omega arith
+
+pub total-append : (a b : List ℕ) → total (a ++ b) ≡ total a + total b
+total-append [] b = omega arith
+total-append (x ∷ a) b = let rest = total-append a b in omega arith
 
 -- the first byte is that of the part before the sum
 same-count : (bs t : List ℕ) → 0 < length bs → count (bs ++ t) ≡ count bs

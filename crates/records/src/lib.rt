@@ -30,6 +30,13 @@ pub enum Found {
     Malformed,
 }
 
+// What stands where a record has to begin; a bad one has its reason.
+pub enum Item {
+    Data { address: u16, count: u8 },
+    End,
+    Bad(u8),
+}
+
 // The text from a place on; nothing where that lies past the end.
 pub fn rest(text: &[u8], at: usize) -> &[u8]
     ensures { λ r. ⌜ now r ≡ drop at (now (text .entry)) ⌝ }

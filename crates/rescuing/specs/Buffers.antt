@@ -11,7 +11,8 @@ use Rattle.records.specs.Contents.{Stretch}
 use Rattle.records.specs.Complete.{whole}
 use Rattle.tapes.specs.Tapes.{tapeOf, readTape}
 use Rattle.tapes.specs.Grammar.{Tape, tapeText}
-use Rattle.tapes.specs.Theorems.{goodTape, tape-records, written-read}
+use Rattle.records.specs.Onto.{goodText}
+use Rattle.tapes.specs.Theorems.{tape-records, written-read}
 use Rattle.rescuing.specs.Rescuing.{saved, Outcome, restored, rescued}
 use Rattle.rescuing.specs.Theorems.{kept-fits, kept-accepted, sound-kept}
 use Rattle.rescuing.specs.Outcomes.{answered}
@@ -29,7 +30,7 @@ module _ (s buffer : List ℕ) (good : rescued s buffer .answer ≡ 0) where
   rescued-accepted = let known = answered s buffer good in rw its-text (kept-accepted s (omega (arith, known .0)))
 
   pub rescued-read : (m : List ℕ) → length m ≡ fullMemory
-      → readTape (written (rescued s buffer)) m ≡ goodTape (written (rescued s buffer)) (saved 0 s .records) m
+      → readTape (written (rescued s buffer)) m ≡ goodText (written (rescued s buffer)) (saved 0 s .records) m
   rescued-read m full = let known = answered s buffer good in rw its-text (written-read (saved 0 s .records) (kept-fits 0 s) (omega (arith, known .0)) m full)
 
 -- A sound tape in any spelling is rescued whole, where the buffer holds it: all is kept, and nothing dropped.

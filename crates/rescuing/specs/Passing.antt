@@ -18,9 +18,10 @@ use Rattle.records.specs.Reading.{found as foundParts, partsOf}
 use Rattle.records.specs.Whole.{never, record-length}
 use Rattle.records.specs.Contents.{Stretch, stretch, finish, bad}
 use Rattle.records.specs.Grammar.{newline}
-use Rattle.tapes.specs.declared.Item.{Item as Told}
-use Rattle.tapes.specs.declared.Item.the-variants.{Data, End, Bad}
-use Rattle.tapes.specs.Items.{told, toldBy, by-bytes, told-bad, told-end, told-data}
+use Rattle.records.specs.declared.Item.{Item as Told}
+use Rattle.records.specs.declared.Item.the-variants.{Data, End, Bad}
+use Rattle.records.specs.Items.{told, told-bad, told-end, told-data}
+use Rattle.tapes.specs.Items.{toldBy, by-bytes}
 use Rattle.tapes.specs.Grammar.{recordText, tapeText}
 use Rattle.tapes.specs.Lawful.{tape-lawful, text-size}
 use Rattle.rescuing.specs.declared.Pass.{Pass}

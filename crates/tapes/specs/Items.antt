@@ -1,9 +1,9 @@
--- What the code tells of a record.
+-- What the code tells of a record of a tape.
 use Prim.Native.Nat.{ℕ, _+_, _<_}
 use mathlib.Core.Path.{_≡_, refl, ap, sym, _∙_}
 use mathlib.Core.Bool.{Bool, true, false, cond, not}
 use mathlib.Core.List.{List}
-use mathlib.Core.Option.{Option, none, some}
+use mathlib.Core.Option.{Option, some}
 use native.Mathlib.Omega.{arith}
 use lib.Dec.{eqb, ltb}
 use lib.ListN.{length, take, drop, length-drop}
@@ -14,51 +14,17 @@ use Rattle.records.specs.Records.{recordOf, count, address, sum, last}
 use Rattle.records.specs.Reading.{found, partsOf}
 use Rattle.records.specs.Contents.{Stretch, Item, stretch, finish, bad}
 use Rattle.records.specs.Whole.{never, record-length}
-use Rattle.tapes.specs.declared.Item.{Item as Told}
-use Rattle.tapes.specs.declared.Item.the-variants.{Data, End, Bad}
+use Rattle.records.specs.declared.Item.{Item as Told}
+use Rattle.records.specs.declared.Item.the-variants.{Data, End, Bad}
+use Rattle.records.specs.Items.{none-found, one-found, told, told-cond}
 use Rattle.tapes.specs.Tapes.{judge, tapeItem}
 
-abbrev pub told : Item → Told
-told (bad reason) = Bad reason
-told finish = End
-told (stretch r) = Data (r .first) (length (r .bytes))
-
--- the same by the numbers that the code has
+-- by the numbers that the code has
 abbrev pub toldBy : ℕ → Parts → Told
 toldBy before p =
     cond (not (eqb (p .sum) (p .last))) (Bad 6)
     (cond (eqb (p .count) 0) (cond (eqb (p .address) before) End (Bad 8))
     (cond (ltb 65536 (p .address + p .count)) (Bad 7) (Data (p .address) (p .count))))
-
--- the kind of record that was told of
-module _ (i : Item) where
-  pub told-bad : (reason : ℕ) → Bad reason ≡ told i → i ≡ bad reason
-  told-bad reason e = by-case i e
-    where
-      by-case : (i : Item) → Bad reason ≡ told i → i ≡ bad reason
-      by-case (bad r) f = let same : reason ≡ r = cc in rw same
-      by-case finish f = never (cc)
-      by-case (stretch r) f = never (cc)
-
-  pub told-end : End ≡ told i → i ≡ finish
-  told-end e = by-case i e
-    where
-      by-case : (i : Item) → End ≡ told i → i ≡ finish
-      by-case (bad r) f = never (cc)
-      by-case finish f = refl
-      by-case (stretch r) f = never (cc)
-
-  pub told-data : (w n : ℕ) → Data w n ≡ told i → (r : Stretch) × (i ≡ stretch r) × (w ≡ r .first) × (n ≡ length (r .bytes))
-  told-data w n e = by-case i e
-    where
-      by-case : (i : Item) → Data w n ≡ told i → (r : Stretch) × (i ≡ stretch r) × (w ≡ r .first) × (n ≡ length (r .bytes))
-      by-case (bad r) f = never (cc)
-      by-case finish f = never (cc)
-      by-case (stretch r) f = (r, refl, cc, cc)
-
-told-cond : (b : Bool) (x y : Item) → told (cond b x y) ≡ cond b (told x) (told y)
-told-cond true x y = refl
-told-cond false x y = refl
 
 data-length : (bs : List ℕ) → length bs ≡ count bs + 5 → length (take (count bs) (drop 3 bs)) ≡ count bs
 data-length bs h = length-take-le (count bs) (drop 3 bs) (simp length-drop (omega arith))
@@ -77,21 +43,15 @@ by-bytes before bs h =
 module _ (before : ℕ) (s : List ℕ) where
   pub item-malformed : Malformed ≡ found (recordOf 59 s) → told (tapeItem before s) ≡ Bad 5
   unfolding tapeItem
-  item-malformed e = by-case (recordOf 59 s) e
-    where
-      by-case : (o : Option (List ℕ)) → Malformed ≡ found o → told (judge before o) ≡ Bad 5
-      by-case none f = refl
-      by-case (some bs) f = never (cc)
+  item-malformed e = ap (λ (o : Option (List ℕ)). told (judge before o)) (none-found (recordOf 59 s) e)
 
   pub item-by-parts : (p : Parts) → Record p ≡ found (recordOf 59 s) → told (tapeItem before s) ≡ toldBy before p
   unfolding tapeItem
-  item-by-parts p e = by-case (recordOf 59 s) refl e
-    where
-      by-case : (o : Option (List ℕ)) → recordOf 59 s ≡ o → Record p ≡ found o → told (judge before o) ≡ toldBy before p
-      by-case none g f = never (cc)
-      by-case (some bs) g f =
-          let same : p ≡ partsOf bs = cc in
-          by-bytes before bs (record-length 59 s bs g) ∙ ap (toldBy before) (sym same)
+  item-by-parts p e =
+      let its = one-found (recordOf 59 s) p e in
+      ap (λ (o : Option (List ℕ)). told (judge before o)) (its .1)
+      ∙ by-bytes before (its .0) (record-length 59 s (its .0) (its .1))
+      ∙ ap (toldBy before) (sym (its .2))
 
 -- which tests a kind of record has passed
 abbrev chosen : Bool → Bool → Bool → Bool → Stretch → Item

@@ -1,14 +1,13 @@
 -- What reading a tape means: the grammar both ways, what a refusal leaves, what a later record does.
-use Prim.Native.Nat.{ℕ, _+_, _-_, _<_}
-use mathlib.Core.Path.{_≡_, refl}
+use Prim.Native.Nat.{ℕ, _+_, _<_}
+use mathlib.Core.Path.{_≡_, refl, ap, _∙_}
 use mathlib.Core.List.{List, [], _∷_, _++_}
 use native.Mathlib.Omega.{arith}
 use lib.ListN.{length, getD}
-use borrow.Author.Tests.{eq-eqb}
 use Rattle.manual.specs.Stepping.{fullMemory}
-use Rattle.records.specs.Contents.{Stretch, Loaded, laid}
+use Rattle.records.specs.Contents.{Stretch, Contents, laid, readOnto}
 use Rattle.records.specs.Grammar.{Text, Fits}
-use Rattle.records.specs.Onto.{onto-good, onto-refused}
+use Rattle.records.specs.Onto.{onto-good, onto-refused, goodText, read-whole}
 use Rattle.records.specs.Laying.{Untouched, laid-untouched, laid-last}
 use Rattle.tapes.specs.Tapes.{tapeItem, tapeOf, readTape}
 use Rattle.records.specs.Sound.{accepted-by-grammar}
@@ -31,18 +30,11 @@ pub first-bad : (s : List ℕ) → (tapeOf s .answer ≡ 0 → ⊥) → Refused 
 unfolding tapeOf
 first-bad s z = refused-there tapeItem TapeData TapeEnd tape-lawful s z
 
--- what a tape with the data records rs gives
-abbrev pub goodTape : List ℕ → List Stretch → List ℕ → Loaded
-goodTape s rs m = record { answer = 0; good = length rs + 1; place = length s; memory = laid rs m }
-
 module _ (s m : List ℕ) where
   -- A tape by the grammar is not refused, and leaves its records.
-  pub read-complete : (rs : List Stretch) → Tape rs s → length m ≡ fullMemory → readTape s m ≡ goodTape s rs m
+  pub read-complete : (rs : List Stretch) → Tape rs s → length m ≡ fullMemory → readTape s m ≡ goodText s rs m
   unfolding readTape
-  read-complete rs t h =
-      let all : length s - 0 ≡ length s = omega arith in
-      let counts : 0 + length rs + 1 ≡ length rs + 1 = omega arith in
-      rw (eq-eqb (length m) fullMemory h, tape-is-accepted s rs t, all, counts)
+  read-complete rs t h = ap (λ (c : Contents). readOnto s c m) (tape-is-accepted s rs t) ∙ read-whole s rs m h
 
   -- What is accepted is a tape by the grammar, and the memory has its records.
   pub read-sound : readTape s m .answer ≡ 0
@@ -80,5 +72,5 @@ module _ (rs : List Stretch) (fits : Fits rs) (few : length rs < 65536) where
   pub reads-back : tapeOf (tapeText 0 rs) ≡ whole 0 rs
   reads-back = tape-is-accepted (tapeText 0 rs) rs written
 
-  pub written-read : (m : List ℕ) → length m ≡ fullMemory → readTape (tapeText 0 rs) m ≡ goodTape (tapeText 0 rs) rs m
+  pub written-read : (m : List ℕ) → length m ≡ fullMemory → readTape (tapeText 0 rs) m ≡ goodText (tapeText 0 rs) rs m
   written-read m f = read-complete (tapeText 0 rs) m rs written f

@@ -4,11 +4,13 @@ ghost use mathlib.Core.Path.{_≡_};
 ghost use mathlib.Core.List.{[], _++_};
 ghost use lib.ListN.{length};
 ghost use Rattle.text.specs.Written.{Wrote};
+ghost use Rattle.records.specs.Items.{told};
 ghost use Rattle.records.specs.Grammar.{newline};
 ghost use Rattle.tapes.specs.Tapes.{tapeItem};
-ghost use Rattle.tapes.specs.Items.{told, toldBy};
+ghost use Rattle.tapes.specs.Items.{toldBy};
 ghost use Rattle.tapes.specs.Grammar.{recordText};
 use records::Found;
+use records::Item;
 use records::Parts;
 use records::read_record;
 use text::put_hex4;
@@ -19,13 +21,6 @@ pub fn tape_buffer() -> [u8; 1048576]
     ensures { λ r. ⌜ 1048576 ≡ length r ⌝ }
 {
     [0; 1048576]
-}
-
-// What stands where a record has to begin; a bad one has its reason.
-pub enum Item {
-    Data { address: u16, count: u8 },
-    End,
-    Bad(u8),
 }
 
 // A record by its numbers, after so many data records.

@@ -1,6 +1,8 @@
-// The tapes, for a host in C or Rust: see host/tapes.h.
+// The tapes and Intel HEX, for a host in C or Rust: see host/tapes.h.
 ghost use mathlib.Core.Path.{_≡_};
 ghost use Rattle.tapes.specs.Tapes.{readTape};
+ghost use Rattle.intelhex.specs.IntelHex.{readHex};
+ghost use Rattle.moving.specs.Moving.{tapeToHex, hexToTape};
 ghost use Rattle.punching.specs.Punching.{tapeInto};
 ghost use Rattle.rescuing.specs.Rescuing.{rescued};
 
@@ -15,6 +17,71 @@ pub extern "C" fn tape_load(text: &[u8], memory: &mut [u8], good: &mut u64, plac
     *good = verdict.good;
     *place = verdict.place;
     verdict.answer
+}
+
+// Reads Intel HEX onto a memory.
+#[no_mangle]
+pub extern "C" fn hex_load(text: &[u8], memory: &mut [u8], good: &mut u64, place: &mut usize) -> u8
+    ensures { λ r.
+        ⌜ record { answer = r; good = now (good .exit); place = now (place .exit); memory = now (memory .exit) }
+        ≡ readHex (now (text .entry)) (now (memory .entry)) ⌝ }
+{
+    let verdict = loading::read_hex(text, memory);
+    *good = verdict.good;
+    *place = verdict.place;
+    verdict.answer
+}
+
+// Moves a tape to Intel HEX.
+#[no_mangle]
+pub extern "C" fn tape_to_hex(
+    text: &[u8],
+    out: &mut [u8],
+    size: &mut usize,
+    good: &mut u64,
+    place: &mut usize,
+) -> u8
+    ensures { λ r.
+        ⌜ record {
+          answer = r;
+          size = now (size .exit);
+          good = now (good .exit);
+          place = now (place .exit);
+          buffer = now (out .exit);
+        }
+        ≡ tapeToHex (now (text .entry)) (now (out .entry)) ⌝ }
+{
+    let moved = moving::tape_to_hex(text, out);
+    *size = moved.size;
+    *good = moved.verdict.good;
+    *place = moved.verdict.place;
+    moved.verdict.answer
+}
+
+// Moves Intel HEX to a tape.
+#[no_mangle]
+pub extern "C" fn hex_to_tape(
+    text: &[u8],
+    out: &mut [u8],
+    size: &mut usize,
+    good: &mut u64,
+    place: &mut usize,
+) -> u8
+    ensures { λ r.
+        ⌜ record {
+          answer = r;
+          size = now (size .exit);
+          good = now (good .exit);
+          place = now (place .exit);
+          buffer = now (out .exit);
+        }
+        ≡ hexToTape (now (text .entry)) (now (out .entry)) ⌝ }
+{
+    let moved = moving::hex_to_tape(text, out);
+    *size = moved.size;
+    *good = moved.verdict.good;
+    *place = moved.verdict.place;
+    moved.verdict.answer
 }
 
 // Punches a stretch of memory.

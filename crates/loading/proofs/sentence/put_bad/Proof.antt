@@ -1,7 +1,5 @@
 -- One part after the other.
-use native.Mathlib.Omega.{arith}
-use Rattle.text.specs.Laws.{then, within}
-use Rattle.loading.specs.Lengths.{bad-length}
+use Rattle.text.specs.Laws.{then}
 use borrow.Author.Needs.{needs}
 use Rattle.loading.proofs.sentence.put_bad.Statement.{statement}
 use Rattle.loading.proofs.sentence.put_bad.Tie as tie
@@ -14,10 +12,8 @@ returns c =
     let c₁₅ = c₁₁ .before .before .before .before in
     let c₂₀ = c₁₅ .before .before .before .before .before in
     let c₂₄ = c₂₀ .before .before .before .before in
-    let s = c₂₄ .before .before .before .before in
     let head = then (then (then (then (c₂₄ .put-text .ensures) (c₂₀ .put-decimal .ensures)) (c₁₅ .put-text2 .ensures)) (c₁₁ .put-decimal2 .ensures)) (c₆ .put-text3 .ensures) in
-    let wrote = then head (c₂ .put-reason .ensures .0) in
-    (wrote, within wrote (bad-length (s .args .verdict) (omega (arith, s)) (omega (arith, s))))
+    then head (c₂ .put-reason .ensures)
 
 pub put-bad-spec : {M : Type 1} → statement M
 put-bad-spec = tie.close (tie.spec (search needs) (search needs) (search needs) (search needs) (search needs) (search needs) (search needs) (search needs) (search needs) (search needs) returns)

@@ -1,6 +1,5 @@
--- One part after the other; a number of 64 bits has twenty digits.
-use native.Mathlib.Omega.{arith}
-use Rattle.text.specs.Laws.{then, decimal-length}
+-- One part after the other.
+use Rattle.text.specs.Laws.{then}
 use borrow.Author.Needs.{needs}
 use Rattle.loading.proofs.sentence.put_good.Statement.{statement}
 use Rattle.loading.proofs.sentence.put_good.Tie as tie
@@ -9,10 +8,7 @@ returns : tie.Need-returns
 returns c =
     let c₂ = c .before .before in
     let c₇ = c₂ .before .before .before .before .before in
-    let c₁₁ = c₇ .before .before .before .before in
-    let s = c₁₁ .before .before .before .before in
-    let wrote = then (then (c₁₁ .put-text .ensures) (c₇ .put-decimal .ensures)) (c₂ .put-text2 .ensures) in
-    (wrote, omega (arith, wrote .ends, decimal-length 19 (s .args .good) (omega (arith, s))))
+    then (then (c₇ .before .before .before .before .put-text .ensures) (c₇ .put-decimal .ensures)) (c₂ .put-text2 .ensures)
 
 pub put-good-spec : {M : Type 1} → statement M
 put-good-spec = tie.close (tie.spec (search needs) (search needs) (search needs) (search needs) (search needs) (search needs) returns)

@@ -1,0 +1,14 @@
+-- One way of the two.
+use Rattle.intelhex.specs.IntelHex.{hexOf}
+use Rattle.moving.specs.Moving.{hexToTape}
+use Rattle.moving.specs.Lines.{moved}
+use borrow.Author.Needs.{needs}
+use Rattle.moving.proofs.hex_to_tape.Statement.{statement}
+use Rattle.moving.proofs.hex_to_tape.Tie as tie
+
+returns : tie.Need-returns
+unfolding hexToTape hexOf moved
+returns c = c .before .before .deliver .ensures
+
+pub hex-to-tape-spec : {M : Type 1} → statement M
+hex-to-tape-spec = tie.close (tie.spec (search needs) (search needs) returns)

@@ -1,0 +1,5 @@
+pub mod Moving
+pub mod Lines
+pub mod Passing
+pub mod Outcomes
+pub mod Theorems
