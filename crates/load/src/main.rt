@@ -1,16 +1,17 @@
-// Lays a paper tape onto an image, and keeps the memory after it where the whole tape is good.
+// Lays a paper tape or Intel HEX onto an image, and keeps the memory after it where all of it is good.
 //
 // run load TAPE AFTER [IMAGE]
 //
-// TAPE is a file of fewer than 1,048,576 characters, or standard input where it is `-`. It is laid onto IMAGE, a file of
-// 65,536 bytes, or onto zeros where none is named. AFTER is a file. The memory is written there, whole and at once, where the
-// whole tape is good; otherwise a file of that name is left as it was. A sentence on standard error says what was found, with
-// the tape's name before it; of a bad tape, after how many good records and how many characters the first bad one begins.
+// TAPE is a file of fewer than 1,048,576 characters, or standard input where it is `-`. It is Intel HEX where its first record
+// begins with `:`, and otherwise it is read as a tape. It is laid onto IMAGE, a file of 65,536 bytes, or onto zeros where none
+// is named. AFTER is a file. The memory is written there, whole and at once, where all of TAPE is good; otherwise a file of
+// that name is left as it was. A sentence on standard error says what was found, with the tape's name before it; of a bad
+// one, after how many good records and how many characters the first bad record begins.
 //
-// Exit status: 0 the tape is good, and AFTER is written; 1 the image is not 65,536 bytes long; 5 a record is malformed or
-// cut short, or a stray character stands there; 6 it has a wrong sum; 7 it goes past FFFF; 8 there is no end record, or it has
-// a wrong number; 10 the tape is too long for this program; 64 wrong usage, 66 an input cannot be opened, 74 reading or
-// writing failed.
+// Exit status: 0 all is good, and AFTER is written; 1 the image is not 65,536 bytes long; 5 a record is malformed or cut short,
+// in HEX without data or of another type than 00 and 01, or a stray character stands there; 6 it has a wrong sum; 7 it goes
+// past FFFF; 8 there is no end record, or it has a wrong number, or HEX has more than 65,535 data records; 10 the tape is too
+// long for this program; 64 wrong usage, 66 an input cannot be opened, 74 reading or writing failed.
 //
 // What is laid, the answer and the sentence are promised by the crate loading; here it is only read and written.
 use console::argument_is;
@@ -21,12 +22,14 @@ use console::read_input;
 use console::refuse;
 use console::replace;
 use console::say_of;
+use loading::Format;
 use loading::Verdict;
-use loading::put_sentence;
-use loading::read_tape;
+use loading::format_of;
+use loading::read_text;
 use memory::image_buffer;
 use statuses::FAILED;
 use tape_input::read_tape_input;
+use tape_input::say_verdict;
 use tapes::tape_buffer;
 
 // The arguments that name files.
@@ -36,20 +39,18 @@ const AFTER: usize = 2;
 
 const IMAGE: usize = 3;
 
-// 128 is the most that a sentence can have: see `put_sentence`.
-fn explain(verdict: Verdict) {
-    let mut text = [0u8; 128];
-    let size = put_sentence(&mut text, 0, verdict);
+// The answer 1 is about the image, and all others about the tape.
+fn explain(format: Format, verdict: Verdict) {
     if verdict.answer == 1 {
-        say_of(IMAGE, &text[..size]);
+        say_verdict(IMAGE, format, verdict);
     } else {
-        say_of(TAPE, &text[..size]);
+        say_verdict(TAPE, format, verdict);
     }
 }
 
 // Keeps the memory only where the whole tape is good.
-fn conclude(verdict: Verdict, image: &[u8]) -> u8 {
-    explain(verdict);
+fn conclude(format: Format, verdict: Verdict, image: &[u8]) -> u8 {
+    explain(format, verdict);
     if verdict.answer == 0 && replace(AFTER, image) {
         return 0;
     }
@@ -61,8 +62,8 @@ fn conclude(verdict: Verdict, image: &[u8]) -> u8 {
 }
 
 fn load_onto(tape: &[u8], image: &mut [u8]) -> u8 {
-    let verdict = read_tape(tape, image);
-    conclude(verdict, image)
+    let verdict = read_text(tape, image);
+    conclude(format_of(tape), verdict, image)
 }
 
 // Loads a tape onto the image that is named, or onto zeros.

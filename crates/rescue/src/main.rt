@@ -21,6 +21,7 @@ use console::has_option;
 use console::refuse;
 use console::say_of;
 use console::write_output;
+use loading::Format;
 use loading::Verdict;
 use loading::judge_tape;
 use rescuing::Rescued;
@@ -45,7 +46,7 @@ fn explain(rescued: Rescued) {
 // Says why a reader refuses the old tape, where nothing else has told that it is not whole.
 fn explain_old(rescued: Rescued, verdict: Verdict) {
     if rescued.answer == 0 && rescued.dropped == 0 && verdict.answer != 0 {
-        say_verdict(TAPE, verdict);
+        say_verdict(TAPE, Format::Tape, verdict);
     }
 }
 

@@ -19,6 +19,7 @@ use console::hand_over;
 use console::has_option;
 use console::refuse;
 use console::write_output;
+use loading::Format;
 use loading::Verdict;
 use loading::judge_tape;
 use rescuing::Rescued;
@@ -47,7 +48,7 @@ fn survey_tape(index: usize, tape: &[u8]) -> u8 {
     let verdict = judge_tape(tape);
     let rescued = rescue_for_counts(tape);
     let written = print_line(verdict, rescued);
-    say_verdict(index, verdict);
+    say_verdict(index, Format::Tape, verdict);
     if written {
         return verdict.answer;
     }

@@ -1,8 +1,9 @@
-// The tape that an argument names: it is read, and what a reader found is said of it.
+// The tape, or the Intel HEX, that an argument names: it is read, and what a reader found is said of it.
 ghost use Rattle.io.specs.Counts.{Counts};
 use console::Input;
 use console::read_input;
 use console::say_of;
+use loading::Format;
 use loading::Verdict;
 use loading::put_sentence;
 
@@ -15,10 +16,7 @@ pub fn read_tape_input(index: usize, tape: &mut [u8]) -> Input
 {
     let input = read_input(index, tape);
     if input.status == 0 && tape.len() <= input.size {
-        say_of(
-            index,
-            b"refused: the tape has more than 1048575 characters\n",
-        );
+        say_of(index, b"refused: it has more than 1048575 characters\n");
         return Input {
             status: TOO_LONG,
             size: 0,
@@ -27,9 +25,10 @@ pub fn read_tape_input(index: usize, tape: &mut [u8]) -> Input
     input
 }
 
-// Says what a reader found. 128 is the most that a sentence can have: see `put_sentence`.
-pub fn say_verdict(index: usize, verdict: Verdict) {
-    let mut text = [0u8; 128];
-    let size = put_sentence(&mut text, 0, verdict);
+// Says what a reader found of a text that it took for one of a format.
+pub fn say_verdict(index: usize, format: Format, verdict: Verdict) {
+    // 160 is the most that a sentence can have: see `put_sentence`.
+    let mut text = [0u8; 160];
+    let size = put_sentence(&mut text, 0, format, verdict);
     say_of(index, &text[..size]);
 }

@@ -1,0 +1,33 @@
+// Prints a paper tape as Intel HEX, record for record.
+//
+// run hex [TAPE]
+//
+// The tape is a file of fewer than 1,048,576 characters, or standard input where it is `-` or none is named. Each data record
+// keeps its address and its data, CR LF stands after each record, and the end record is `:00000001FF`. A tape that is refused
+// is not begun. A sentence on standard error says what was found, with the tape's name before it; of a bad tape, after how
+// many good records and how many characters the first bad one begins.
+//
+// Exit status: 0 the whole tape is good, and its HEX is written; 5 a record is malformed or cut short, or a stray character
+// stands there; 6 it has a wrong sum; 7 it goes past FFFF; 8 there is no end record, or it has a wrong number; 10 the tape is
+// too long for this program, or its HEX; 64 wrong usage, 66 the tape cannot be opened, 74 reading or writing failed.
+//
+// What is written and what is said are promised by the crates moving and loading; here it is only read and written.
+use console::hand_over;
+use console::has_option;
+use console::refuse;
+use exchange::move_argument;
+use loading::Format;
+
+// The argument that names the tape.
+const TAPE: usize = 1;
+
+fn hex_by_arguments() -> u8 {
+    if TAPE + 1 < os::arg_count() || has_option(TAPE) {
+        return refuse(b"hex: name one tape, or none for standard input; ./run hex --help\n");
+    }
+    move_argument(TAPE, Format::Tape)
+}
+
+fn main() {
+    hand_over(hex_by_arguments());
+}
