@@ -8,7 +8,22 @@ use std::path::{Path, PathBuf};
 use std::process::{Command, Output};
 
 const COMMAND: &str = "srec_cat";
-const TAPE: &str = "-mos-technologies";
+
+/// What srecord reads and writes.
+#[derive(Clone, Copy, PartialEq, Eq)]
+pub enum Format {
+    Tape,
+    Hex,
+}
+
+impl Format {
+    fn option(self) -> &'static str {
+        match self {
+            Format::Tape => "-mos-technologies",
+            Format::Hex => "-intel",
+        }
+    }
+}
 
 /// There is nothing to compare: a file or the command failed.
 pub struct Failed(pub String);
@@ -17,7 +32,7 @@ fn at(path: &Path) -> impl FnOnce(io::Error) -> Failed {
     move |fault| Failed(format!("{}: {fault}", path.display()))
 }
 
-/// What srecord made of a tape.
+/// What srecord made of a text.
 pub enum Read {
     Bytes(Vec<u8>),
     Refused(String),
@@ -49,7 +64,7 @@ impl LineEnd {
     }
 }
 
-/// How srecord is asked to write a tape.
+/// How srecord is asked to write a text.
 #[derive(Clone, Copy)]
 pub struct Spelling {
     pub line_end: LineEnd,
@@ -91,12 +106,13 @@ impl Srecord {
     }
 
     /// The file that it was asked for. One that an earlier call wrote must not be taken for it.
-    fn written(&self, mut arguments: Vec<OsString>, format: &str) -> Result<Read, Failed> {
+    fn written(&self, mut arguments: Vec<OsString>, format: &[&str]) -> Result<Read, Failed> {
         let path = self.folder.join("out");
         if path.exists() {
             fs::remove_file(&path).map_err(at(&path))?;
         }
-        arguments.extend(["-o".into(), path.clone().into(), format.into()]);
+        arguments.extend(["-o".into(), path.clone().into()]);
+        arguments.extend(format.iter().map(OsString::from));
         let output = self.run(&arguments)?;
         if output.status.success() {
             fs::read(&path).map_err(at(&path)).map(Read::Bytes)
@@ -109,12 +125,13 @@ impl Srecord {
         }
     }
 
-    /// A tape of some stretches of an image, or of all of it where there are none.
-    pub fn tape(
+    /// A text of some stretches of an image, or of all of it where there are none, with further options for its format.
+    fn text(
         &self,
         image: &[u8],
         stretches: &[Range<usize>],
         spelling: Spelling,
+        format: &[&str],
     ) -> Result<Vec<u8>, Failed> {
         let mut arguments = vec![self.put("image", image)?, "-binary".into()];
         if !stretches.is_empty() {
@@ -129,37 +146,62 @@ impl Srecord {
         if spelling.packed {
             arguments.push("-output-block-packing".into());
         }
-        match self.written(arguments, TAPE)? {
+        match self.written(arguments, format)? {
             Read::Bytes(text) => Ok(text),
-            Read::Refused(why) => Err(Failed(format!("{COMMAND} writes no tape: {why}"))),
+            Read::Refused(why) => Err(Failed(format!("{COMMAND} writes no text: {why}"))),
         }
     }
 
-    /// A memory with a tape laid over it, all of it by srecord: it takes out of the memory what the tape has.
-    pub fn laid(&self, tape: &[u8], memory: &[u8]) -> Result<Read, Failed> {
-        let tape = self.put("tape", tape)?;
+    pub fn tape(
+        &self,
+        image: &[u8],
+        stretches: &[Range<usize>],
+        spelling: Spelling,
+    ) -> Result<Vec<u8>, Failed> {
+        self.text(image, stretches, spelling, &[Format::Tape.option()])
+    }
+
+    /// HEX with an address of so many bytes: of the types 00 and 01 alone where they are 2. It may name where to start.
+    pub fn hex(
+        &self,
+        image: &[u8],
+        stretches: &[Range<usize>],
+        spelling: Spelling,
+        address_bytes: u8,
+        start: Option<u16>,
+    ) -> Result<Vec<u8>, Failed> {
+        let length = format!("-address-length={address_bytes}");
+        let mut format = vec![Format::Hex.option(), &length];
+        let start = start.map(|start| format!("-execution-start-address={start}"));
+        format.extend(start.as_deref());
+        self.text(image, stretches, spelling, &format)
+    }
+
+    /// A memory with a text laid over it, all of it by srecord: it takes out of the memory what the text has.
+    pub fn laid(&self, format: Format, text: &[u8], memory: &[u8]) -> Result<Read, Failed> {
+        let text = self.put("text", text)?;
         let memory = self.put("memory", memory)?;
         let arguments = vec![
-            tape.clone(),
-            TAPE.into(),
+            text.clone(),
+            format.option().into(),
             memory,
             "-binary".into(),
             "-exclude".into(),
             "-within".into(),
-            tape,
-            TAPE.into(),
+            text,
+            format.option().into(),
         ];
-        self.written(arguments, "-binary")
+        self.written(arguments, &["-binary"])
     }
 
-    /// The bytes of a tape from an address on, up to its last one, 00 where it has none.
-    pub fn bytes(&self, tape: &[u8], from: usize) -> Result<Read, Failed> {
+    /// The bytes of a text from an address on, up to its last one, 00 where it has none.
+    pub fn bytes(&self, format: Format, text: &[u8], from: usize) -> Result<Read, Failed> {
         let arguments = vec![
-            self.put("tape", tape)?,
-            TAPE.into(),
+            self.put("text", text)?,
+            format.option().into(),
             "-offset".into(),
             format!("-{from}").into(),
         ];
-        self.written(arguments, "-binary")
+        self.written(arguments, &["-binary"])
     }
 }

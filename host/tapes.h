@@ -1,4 +1,4 @@
-/* Paper tapes, proved, for a host in C or C++: link target/staticlib/libtapes_c.a, which `rt staticlib tapes_c` writes for
+/* Paper tapes and Intel HEX, proved, for a host in C or C++: link target/staticlib/libtapes_c.a, which `rt staticlib tapes_c` writes for
  * x86-64.
  *
  * In each call the texts, the memory and the numbers must not overlap, and nobody else may use them meanwhile. Every number
@@ -26,6 +26,27 @@ extern "C" {
  * With the answer 1 both are 0. */
 uint8_t tape_load(const uint8_t *text, size_t text_length, uint8_t *memory, size_t memory_length, uint64_t *good,
                   size_t *place);
+
+/* Reads Intel HEX, types 00 and 01, onto a memory, as tape_load reads a tape and with its answers. Here
+ *   5  is also the answer for another type, for a data record without data, and for an end record other than `:00000001FF`
+ *      whose sum is right
+ *   8  for a 65,536th data record, or where there is no end record */
+uint8_t hex_load(const uint8_t *text, size_t text_length, uint8_t *memory, size_t memory_length, uint64_t *good,
+                 size_t *place);
+
+/* Moves a tape to Intel HEX, record for record: the same addresses and data, CR LF after each record. It answers, the first
+ * that holds:
+ *   5, 6, 7, 8  as tape_load
+ *  10  the HEX has more than out_length characters; twice text_length is always enough
+ *   0  the whole tape is good, and its HEX stands at the start of out
+ * *size is the length of the HEX, 0 where it is refused. What stands after it is as it was; a refusal writes nothing to out.
+ * *good and *place are as in tape_load. */
+uint8_t tape_to_hex(const uint8_t *text, size_t text_length, uint8_t *out, size_t out_length, size_t *size, uint64_t *good,
+                    size_t *place);
+
+/* Moves Intel HEX to a tape, in the same way, with the answers of hex_load and 10. */
+uint8_t hex_to_tape(const uint8_t *text, size_t text_length, uint8_t *out, size_t out_length, size_t *size, uint64_t *good,
+                    size_t *place);
 
 /* Writes the memory from a first to a last address as a tape, 24 bytes a record. It answers, the first that holds:
  *   1  memory_length is not 65,536

@@ -1,5 +1,7 @@
-//! Compares the tapes with srecord: what srec_cat writes is read by `tape_load`, and what `tape_punch` writes by srec_cat.
+//! Compares the tapes and Intel HEX with srecord: what srec_cat writes is read by `tape_load` and `hex_load`, and what
+//! `tape_punch`, `tape_to_hex` and `hex_to_tape` write by srec_cat.
 
+mod hexes;
 mod spellings;
 mod srecord;
 mod stretches;
@@ -14,17 +16,17 @@ use std::process::ExitCode;
 use oracle::options::Options;
 use oracle::random::Random;
 
-use srecord::{Failed, LineEnd, PLAIN, Read, Spelling, Srecord};
+use srecord::{Failed, Format, LineEnd, PLAIN, Read, Spelling, Srecord};
 use stretches::{KINDS, Order, SIZE};
 use tapes::{Bad, Place, Unsaved};
 
 const USAGE: &str = "usage: host/tapes [--seed N] [--images N] [--stretches N] \
-    [--plant | --plant-end | --plant-punch] [ARCHIVE.a]";
+    [--plant | --plant-end | --plant-hex | --plant-punch] [ARCHIVE.a]";
 /// The files stand here while srecord reads them.
 const FOLDER: &str = "target/host/tapes.files";
 /// A tape on which the two differ is kept here.
 const KEPT: &str = "target/host/differs.tape";
-/// The end record has two bytes for the number of data records.
+/// A tape's end record has two bytes for the number of data records, and HEX has no more of them.
 const MOST: usize = 65_535;
 
 pub enum Fault {
@@ -223,12 +225,16 @@ enum Plant {
     Load,
     /// The reader takes srecord's end record.
     End,
+    /// A byte that was loaded from the last HEX is another one.
+    Hex,
     /// A byte of the last stretch that was punched is another one.
     Punch,
 }
 
 struct Comparison {
     random: Random,
+    /// Its own, so that the tapes of a seed are the same whatever is done with HEX.
+    hex_random: Random,
     srecord: Srecord,
     plant: Plant,
 }
@@ -237,13 +243,13 @@ impl Comparison {
     /// What srecord says that a memory is after a tape, and whether it could read that tape itself.
     fn said(&self, order: &Order, tape: &Written, memory: &[u8]) -> Result<(Vec<u8>, bool), Fault> {
         match (
-            self.srecord.laid(&tape.text, memory)?,
+            self.srecord.laid(Format::Tape, &tape.text, memory)?,
             tape.is_read_by_srecord(),
         ) {
             (Read::Bytes(after), true) => Ok((after, true)),
             (Read::Refused(_), false) => {
                 let plain = self.srecord.tape(&order.image, &order.stretches, PLAIN)?;
-                match self.srecord.laid(&plain, memory)? {
+                match self.srecord.laid(Format::Tape, &plain, memory)? {
                     Read::Bytes(after) => Ok((after, false)),
                     Read::Refused(why) => {
                         differs(&plain, format!("srecord refuses its own: {why}"))
@@ -394,7 +400,7 @@ impl Comparison {
             Ok(size) => text.truncate(size),
             Err(why) => return differs(&[], format!("{why:?}")),
         }
-        match self.srecord.bytes(&text, stretch.start)? {
+        match self.srecord.bytes(Format::Tape, &text, stretch.start)? {
             Read::Bytes(read) => {
                 same(
                     &text,
@@ -409,6 +415,7 @@ impl Comparison {
         if theirs.put_right() != text {
             return differs(&text, "srecord writes the stretch otherwise");
         }
+        self.move_punched(&memory, stretch, &text)?;
         Ok(theirs.records)
     }
 }
@@ -431,17 +438,27 @@ fn stretch_to_punch(random: &mut Random, number: usize) -> Range<usize> {
 fn compare(comparison: &mut Comparison, images: usize, stretches: usize) -> Result<(), Fault> {
     spellings::compare(&comparison.srecord)?;
     let mut rows: [Row; KINDS.len()] = Default::default();
+    let mut hex_rows: [hexes::Row; KINDS.len()] = Default::default();
     for number in 0..images {
         let place = number % KINDS.len();
         let order = (KINDS[place].make)(&mut comparison.random);
         let name = || format!("image {} ({})", number + 1, KINDS[place].name);
-        let row = comparison.load(&order, number + 1 == images);
-        let row = row.map_err(|fault| fault.of(&name()))?;
-        rows[place].add(&row);
+        let is_last = number + 1 == images;
+        let row = comparison.load(&order, is_last);
+        rows[place].add(&row.map_err(|fault| fault.of(&name()))?);
+        let row = comparison.load_hex(&order, is_last);
+        hex_rows[place].add(&row.map_err(|fault| fault.of(&name()))?);
     }
     Row::head();
     let mut all = Row::default();
     for (kind, row) in KINDS.iter().zip(&rows) {
+        row.print(kind.name);
+        all.add(row);
+    }
+    all.print("all");
+    hexes::Row::head();
+    let mut all = hexes::Row::default();
+    for (kind, row) in KINDS.iter().zip(&hex_rows) {
         row.print(kind.name);
         all.add(row);
     }
@@ -460,7 +477,13 @@ fn compare(comparison: &mut Comparison, images: usize, stretches: usize) -> Resu
         "{stretches} stretches punched, {records} records, {bytes} bytes: srecord reads them all, and writes the same text, \
          save the number for the sum in {number_for_sum}"
     );
-    println!("{} tapes: the bytes are equal", images + stretches);
+    println!(
+        "moved to HEX: srecord reads it and writes it the same, and moved back it is the tape"
+    );
+    println!(
+        "{} tapes and as much HEX: the bytes are equal",
+        images + stretches
+    );
     Ok(())
 }
 
@@ -471,6 +494,7 @@ fn run(options: &Options) -> Result<(), Fault> {
     let plants = [
         ("--plant", Plant::Load),
         ("--plant-end", Plant::End),
+        ("--plant-hex", Plant::Hex),
         ("--plant-punch", Plant::Punch),
     ];
     let plant = plants.iter().find(|(mark, _)| options.has(mark));
@@ -488,6 +512,7 @@ fn run(options: &Options) -> Result<(), Fault> {
     let folder = Path::new(FOLDER);
     let mut comparison = Comparison {
         random: Random::new(seed),
+        hex_random: Random::new(seed + 1),
         srecord: Srecord::new(folder)?,
         plant,
     };
@@ -498,7 +523,7 @@ fn run(options: &Options) -> Result<(), Fault> {
 }
 
 fn main() -> ExitCode {
-    let marks = ["--plant", "--plant-end", "--plant-punch"];
+    let marks = ["--plant", "--plant-end", "--plant-hex", "--plant-punch"];
     let options = match Options::of_arguments(&["--seed", "--images", "--stretches"], &marks) {
         Ok(options) => options,
         Err(fault) => {
