@@ -4,17 +4,17 @@ use mathlib.Core.Path.{_≡_, refl, _∙_}
 use mathlib.Core.Bool.{Bool, true, false, not, cond, _&&_}
 use mathlib.Core.List.{List}
 use native.Mathlib.Omega.{arith}
-use lib.Dec.{ltb}
-use borrow.Author.Tests.{lt-ltb, le-ltb}
+use lib.Dec.{leb, ltb}
+use borrow.Author.Tests.{lt-ltb, le-ltb, le-leb, lt-leb}
 use Rattle.manual.specs.declared.Lines.{Lines}
 use Rattle.manual.specs.declared.Machine.{Machine}
 use Rattle.manual.specs.declared.Due.{Due}
 use Rattle.manual.specs.declared.Due.the-variants.{Through, Quiet}
 use Rattle.manual.specs.declared.Stepped.{Stepped}
 use Rattle.manual.specs.declared.Ended.{Ended}
-use Rattle.manual.specs.declared.Reason.the-variants.{Made}
+use Rattle.manual.specs.declared.Reason.the-variants.{Made, NoCycleRoom}
 use Rattle.manual.specs.Micro.{Micro, done, _>>=_, exec, Gives}
-use Rattle.manual.specs.Outcomes.{isMade, ended}
+use Rattle.manual.specs.Outcomes.{isMade, refused, ended}
 use Rattle.manual.specs.Interrupts.{due}
 use Rattle.manual.specs.Stepping.{stepFull}
 use Rattle.manual.specs.Theorems.Programs.{exec-then}
@@ -28,13 +28,32 @@ abbrev pub heed : {A : Type 0} → Due → A → A → A
 heed (Through vector) a b = a
 heed Quiet a b = b
 
+-- a step on a full memory, refused from the count `until` on: there the room for cycles ends, or the limit of a run by cycles is spent
+unfoldable pub stepUntil : ℕ → Lines → Machine → Micro Stepped
+stepUntil until lines s = cond (leb until (s .cycles)) (done (refused NoCycleRoom s)) (stepFull lines s)
+
+pub until-done : (until : ℕ) (lines : Lines) (s : Machine) → until ≤ s .cycles → stepUntil until lines s ≡ done (refused NoCycleRoom s)
+unfolding stepUntil
+until-done until lines s h = rw (le-leb _ _ h)
+
+pub until-over : (until : ℕ) (lines : Lines) (s : Machine) (m : List ℕ) → until ≤ s .cycles → Gives (stepUntil until lines s) m (refused NoCycleRoom s) m
+until-over until lines s m h = rw (until-done until lines s h)
+
+pub until-under : (until : ℕ) (lines : Lines) (s : Machine) → s .cycles < until → stepUntil until lines s ≡ stepFull lines s
+unfolding stepUntil
+until-under until lines s h = rw (lt-leb _ _ h)
+
+pub until-gives : (until : ℕ) (lines : Lines) (s : Machine) (m : List ℕ) {q : Stepped} {m′ : List ℕ} → s .cycles < until
+    → Gives (stepFull lines s) m q m′ → Gives (stepUntil until lines s) m q m′
+until-gives until lines s m l g = rw (until-under until lines s l) g
+
 -- n more steps on a full memory, after k; the last of them put out `first`
-unfoldable pub walking : ℕ → ℕ → ℕ → Lines → Machine → Micro Walked
-walking zero k first lines s = done (walked Quiet first (ended Made k s))
-walking (suc n) k first lines s =
+unfoldable pub walking : ℕ → ℕ → ℕ → ℕ → Lines → Machine → Micro Walked
+walking zero k first until lines s = done (walked Quiet first (ended Made k s))
+walking (suc n) k first until lines s =
     heed (due lines s) (done (walked (due lines s) 0 (ended Made k s))) (do
-      q ← stepFull lines s
-      cond (isMade (q .reason)) (walking n (k + 1) (q .first) lines (q .machine)) (done (walked Quiet (q .first) (ended (q .reason) k (q .machine)))))
+      q ← stepUntil until lines s
+      cond (isMade (q .reason)) (walking n (k + 1) (q .first) until lines (q .machine)) (done (walked Quiet (q .first) (ended (q .reason) k (q .machine)))))
 
 -- two tests, one after the other
 pub both : (a b : Bool) → a ≡ true → b ≡ true → (a && b) ≡ true
@@ -69,26 +88,26 @@ level-first from last present = let l : from ≤ from = omega arith in rw (le-lt
 
 -- ---- inside the loop, before step k of a bound
 
-pub walk-end : (k first : ℕ) (lines : Lines) (s : Machine) (m : List ℕ) → Gives (walking 0 k first lines s) m (walked Quiet first (ended Made k s)) m
+pub walk-end : (k first until : ℕ) (lines : Lines) (s : Machine) (m : List ℕ) → Gives (walking 0 k first until lines s) m (walked Quiet first (ended Made k s)) m
 unfolding walking
-walk-end k first lines s m = refl
+walk-end k first until lines s m = refl
 
-module _ (lines : Lines) (s : Machine) (m : List ℕ) (bound k first : ℕ) (l : k < bound) where
+module _ (lines : Lines) (s : Machine) (m : List ℕ) (bound k first until : ℕ) (l : k < bound) where
   one-more : bound - k ≡ suc (bound - (k + 1))
   one-more = omega arith
 
   pub walk-due : (vector : ℕ) → due lines s ≡ Through vector
-      → Gives (walking (bound - k) k first lines s) m (walked (Through vector) 0 (ended Made k s)) m
+      → Gives (walking (bound - k) k first until lines s) m (walked (Through vector) 0 (ended Made k s)) m
   unfolding walking
   walk-due vector d = rw (one-more, d)
 
-  module _ (q : Stepped) (m′ : List ℕ) (none : due lines s ≡ Quiet) (g : Gives (stepFull lines s) m q m′) where
+  module _ (q : Stepped) (m′ : List ℕ) (none : due lines s ≡ Quiet) (g : Gives (stepUntil until lines s) m q m′) where
     pub walk-next : isMade (q .reason) ≡ true
-        → exec (walking (bound - k) k first lines s) m ≡ exec (walking (bound - (k + 1)) (k + 1) (q .first) lines (q .machine)) m′
+        → exec (walking (bound - k) k first until lines s) m ≡ exec (walking (bound - (k + 1)) (k + 1) (q .first) until lines (q .machine)) m′
     unfolding walking
-    walk-next h = rw (one-more, none) (exec-then (stepFull lines s) _ m g ∙ rw h)
+    walk-next h = rw (one-more, none) (exec-then (stepUntil until lines s) _ m g ∙ rw h)
 
     pub walk-refused : isMade (q .reason) ≡ false
-        → Gives (walking (bound - k) k first lines s) m (walked Quiet (q .first) (ended (q .reason) k (q .machine))) m′
+        → Gives (walking (bound - k) k first until lines s) m (walked Quiet (q .first) (ended (q .reason) k (q .machine))) m′
     unfolding walking
-    walk-refused h = rw (one-more, none) (exec-then (stepFull lines s) _ m g ∙ rw h)
+    walk-refused h = rw (one-more, none) (exec-then (stepUntil until lines s) _ m g ∙ rw h)

@@ -1,12 +1,14 @@
 // A step and a bounded run, after single_step and run of cpu.rs.
 ghost use mathlib.Core.Path.{_≡_};
-ghost use Prim.Native.Nat.{_-_, _<_};
+ghost use Prim.Native.Nat.{_+_, _-_, _≤_, _<_};
+ghost use lib.Dec.{leb};
 ghost use lib.ListN.{length};
 ghost use Rattle.manual.specs.Micro.{Gives};
 ghost use Rattle.manual.specs.Outcomes.{machineOf, ended};
 ghost use Rattle.manual.specs.Stepping.{fullMemory, step, run, longRun};
+ghost use Rattle.manual.specs.Spending.{runCycles};
 ghost use Rattle.cpu.specs.Walking.{walked, walking, level};
-ghost use Rattle.cpu.specs.Travelling.{travelled, travelling};
+ghost use Rattle.cpu.specs.Travelling.{travelled, travelling, roomEnd, spentAt};
 use dispatch::Dispatched;
 use dispatch::dispatch;
 use manual::Due;
@@ -24,6 +26,9 @@ use memory::Address;
 use memory::get_byte;
 use registers::Registers;
 use stack::serve;
+
+// The lowest cycle count from which no step is made.
+pub const ROOM_END: u64 = 18446744073709551609;
 
 // What the loop leaves: the run's answer so far, the address that its last step put out first, and the line that it left for.
 struct Walked {
@@ -84,9 +89,16 @@ fn level(from: u64, steps: u64, last: bool, present: bool) -> bool
 // Steps on a full memory, after `from` and up to `bound`, or up to where a line is due. The compiler puts all that a step does
 // into this loop and keeps the registers in the host's: docs/RATE.md says what that takes. So the loop is left for a line, and
 // has no variable for the level of NMI, which can fall before the first step alone.
-fn walk(start: Machine, from: u64, bound: u64, lines: Lines, memory: &mut [u8]) -> Walked
-    requires { ⌜ (length (now memory) ≡ fullMemory) × (from < bound) ⌝ }
-    ensures { λ r. ⌜ Gives (walking (bound - from) from 0 lines start) (now (memory .entry)) r (now (memory .exit)) ⌝ }
+fn walk(
+    start: Machine,
+    from: u64,
+    bound: u64,
+    until: u64,
+    lines: Lines,
+    memory: &mut [u8],
+) -> Walked
+    requires { ⌜ (length (now memory) ≡ fullMemory) × (from < bound) × (until ≤ roomEnd) ⌝ }
+    ensures { λ r. ⌜ Gives (walking (bound - from) from 0 until lines start) (now (memory .entry)) r (now (memory .exit)) ⌝ }
 {
     if start.nmi && !lines.nmi {
         return Walked::for_line(NMI_VECTOR, from, start);
@@ -102,7 +114,7 @@ fn walk(start: Machine, from: u64, bound: u64, lines: Lines, memory: &mut [u8]) 
             let left = Machine::new(registers, cycles, nmi);
             return Walked::for_line(IRQ_VECTOR, steps, left);
         }
-        if HIGHEST_COUNT < cycles {
+        if until <= cycles {
             let nmi = level(from, steps, start.nmi, lines.nmi);
             let left = Machine::new(registers, cycles, nmi);
             return Walked::over(Reason::NoCycleRoom, steps, 0, left);
@@ -129,20 +141,20 @@ fn walk(start: Machine, from: u64, bound: u64, lines: Lines, memory: &mut [u8]) 
 }
 
 // At most `bound` steps on a full memory: the loop, and a line that is due served between two turns of it.
-pub fn travel(start: Machine, bound: u64, lines: Lines, memory: &mut [u8]) -> Travelled
-    requires { ⌜ length (now memory) ≡ fullMemory ⌝ }
-    ensures { λ r. ⌜ Gives (travelling bound 0 0 lines start) (now (memory .entry)) r (now (memory .exit)) ⌝ }
+pub fn travel(start: Machine, bound: u64, until: u64, lines: Lines, memory: &mut [u8]) -> Travelled
+    requires { ⌜ (length (now memory) ≡ fullMemory) × (until ≤ roomEnd) ⌝ }
+    ensures { λ r. ⌜ Gives (travelling bound 0 0 until lines start) (now (memory .entry)) r (now (memory .exit)) ⌝ }
 {
     let mut machine = start;
     let mut steps: u64 = 0;
     while steps < bound {
-        let walked = walk(machine, steps, bound, lines, memory);
+        let walked = walk(machine, steps, bound, until, lines, memory);
         let ended = walked.ended;
         let reached = ended.machine;
         let due = walked.due;
         match due {
             Due::Through(vector) => {
-                if HIGHEST_COUNT < reached.cycles {
+                if until <= reached.cycles {
                     return Travelled::new(Reason::NoCycleRoom, ended.steps, 0, reached);
                 }
                 let registers = serve(vector, reached.registers, memory);
@@ -167,7 +179,7 @@ pub fn single_step(machine: Machine, lines: Lines, memory: &mut [u8]) -> Stepped
     if memory.len() != FULL_MEMORY {
         return Stepped::new(Reason::MemoryNotFull, 0, machine);
     }
-    let travelled = travel(machine, 1, lines, memory);
+    let travelled = travel(machine, 1, ROOM_END, lines, memory);
     let ended = travelled.ended;
     let reason = ended.reason;
     Stepped::new(reason, travelled.first, ended.machine)
@@ -183,7 +195,7 @@ pub fn run(machine: Machine, bound: u64, lines: Lines, memory: &mut [u8]) -> End
     if HIGHEST_BOUND < bound {
         return Ended::new(Reason::BoundTooHigh, 0, machine);
     }
-    travel(machine, bound, lines, memory).ended
+    travel(machine, bound, ROOM_END, lines, memory).ended
 }
 
 // A run of any number of steps: a run of a million and then of another million is no other (the theorem `lunch`).
@@ -193,5 +205,42 @@ pub fn long_run(machine: Machine, steps: u64, lines: Lines, memory: &mut [u8]) -
     if memory.len() != FULL_MEMORY {
         return Ended::new(Reason::MemoryNotFull, 0, machine);
     }
-    travel(machine, steps, lines, memory).ended
+    travel(machine, steps, ROOM_END, lines, memory).ended
+}
+
+// Whether `limit` cycles or more are spent at a count, on from another.
+pub fn spent(from: u64, limit: u64, count: u64) -> bool
+    ensures { λ r. ⌜ r ≡ leb (from + limit) count ⌝ }
+{
+    from <= count && limit <= count - from
+}
+
+// The count at which a run by cycles ends: where its limit is spent, or where the room ends.
+pub fn spent_at(from: u64, limit: u64) -> u64
+    ensures { λ r. ⌜ r ≡ spentAt from limit ⌝ }
+{
+    if spent(from, limit, HIGHEST_COUNT) {
+        from + limit
+    } else {
+        ROOM_END
+    }
+}
+
+// A run that is over when `limit` or more cycles are spent.
+pub fn run_cycles(machine: Machine, limit: u64, lines: Lines, memory: &mut [u8]) -> Ended
+    ensures { λ r. ⌜ Gives (runCycles (length (now (memory .entry))) limit lines machine) (now (memory .entry)) r (now (memory .exit)) ⌝ }
+{
+    if memory.len() != FULL_MEMORY {
+        return Ended::new(Reason::MemoryNotFull, 0, machine);
+    }
+    if HIGHEST_BOUND < limit {
+        return Ended::new(Reason::BoundTooHigh, 0, machine);
+    }
+    let until = spent_at(machine.cycles, limit);
+    let ended = travel(machine, limit, until, lines, memory).ended;
+    let reached = ended.machine;
+    if spent(machine.cycles, limit, reached.cycles) {
+        return Ended::new(Reason::Made, ended.steps, reached);
+    }
+    ended
 }
