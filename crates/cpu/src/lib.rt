@@ -9,7 +9,6 @@ ghost use Rattle.manual.specs.Stepping.{fullMemory, step, run, longRun};
 ghost use Rattle.manual.specs.Spending.{runCycles};
 ghost use Rattle.cpu.specs.Walking.{walked, walking, level};
 ghost use Rattle.cpu.specs.Travelling.{travelled, travelling, roomEnd, spentAt};
-use dispatch::Dispatched;
 use dispatch::dispatch;
 use manual::Due;
 use manual::Ended;
@@ -25,6 +24,7 @@ use manual::Stepped;
 use memory::Address;
 use memory::get_byte;
 use registers::Registers;
+use rows::Dispatched;
 use stack::serve;
 
 // The lowest cycle count from which no step is made.
