@@ -15,7 +15,7 @@ use Rattle.loading.specs.Formats.{contentsOf}
 use Rattle.moving.specs.declared.Moved.{Moved}
 use Rattle.moving.specs.Moving.{Outcome, withText, foundIn}
 use Rattle.moving.specs.Lines.{textFrom, moved, accepted-records, text-length}
-use Rattle.moving.specs.Passing.{verdictOf, Passed}
+use Rattle.moving.specs.Passing.{Passed}
 
 module _ (from to : Format) (s buffer : List ℕ) {l l′ : List ℕ} {measured : Moved} (first : Passed to s (contentsOf from s) l l′ measured) where
   -- what the verdict says, with an answer and what became of the buffer

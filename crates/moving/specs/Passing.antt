@@ -11,14 +11,11 @@ use Rattle.records.specs.Reading.{valuesAt}
 use Rattle.records.specs.Grammar.{newline}
 use Rattle.loading.specs.declared.Format.{Format}
 use Rattle.loading.specs.declared.Verdict.{Verdict}
+use Rattle.loading.specs.Answers.{verdictOf}
 use Rattle.loading.specs.Formats.{itemOf, contentsOf}
 use Rattle.loading.specs.Going.{Stops, Comes}
 use Rattle.moving.specs.declared.Moved.{Moved}
 use Rattle.moving.specs.Lines.{recordIn, textFrom, lineOf, sumFrom, its-line, accepted-records}
-
--- what the text s with the contents c was found to be
-abbrev pub verdictOf : List ℕ → Contents → Verdict
-verdictOf s c = record { answer = c .answer; good = c .good; place = length s - c .left }
 
 -- the verdict, and the whole text where that is good
 pub record Passed (to : Format) (s : List ℕ) (c : Contents) (l l′ : List ℕ) (p : Moved) : Type 0 where
