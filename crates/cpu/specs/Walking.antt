@@ -1,90 +1,94 @@
--- What the loop gives: the run, and the address that the last step put out first, which a run drops and a step keeps.
-use Prim.Native.Nat.{ℕ, zero, suc, _+_, _-_, _<_}
-use mathlib.Core.Path.{_≡_, refl, ap, sym, _∙_}
-use mathlib.Core.Bool.{Bool, true, false, cond}
+-- What the loop gives: steps up to a bound, or up to where a line is due.
+use Prim.Native.Nat.{ℕ, zero, suc, _+_, _-_, _≤_, _<_}
+use mathlib.Core.Path.{_≡_, refl, _∙_}
+use mathlib.Core.Bool.{Bool, true, false, not, cond, _&&_}
 use mathlib.Core.List.{List}
 use native.Mathlib.Omega.{arith}
+use lib.Dec.{ltb}
+use borrow.Author.Tests.{lt-ltb, le-ltb}
+use Rattle.manual.specs.declared.Lines.{Lines}
 use Rattle.manual.specs.declared.Machine.{Machine}
+use Rattle.manual.specs.declared.Due.{Due}
+use Rattle.manual.specs.declared.Due.the-variants.{Through, Quiet}
 use Rattle.manual.specs.declared.Stepped.{Stepped}
 use Rattle.manual.specs.declared.Ended.{Ended}
-use Rattle.manual.specs.declared.Reason.{Reason}
-use Rattle.manual.specs.declared.Reason.the-variants.{Made, MemoryNotFull, NoCycleRoom, NotAnOpcode, BoundTooHigh}
+use Rattle.manual.specs.declared.Reason.the-variants.{Made}
 use Rattle.manual.specs.Micro.{Micro, done, _>>=_, exec, Gives}
-use Rattle.manual.specs.Outcomes.{isMade, stepped, ended}
-use Rattle.manual.specs.Stepping.{stepFull, runFull}
-use Rattle.manual.specs.Theorems.Programs.{exec-then, exec-bind}
+use Rattle.manual.specs.Outcomes.{isMade, ended}
+use Rattle.manual.specs.Interrupts.{due}
+use Rattle.manual.specs.Stepping.{stepFull}
+use Rattle.manual.specs.Theorems.Programs.{exec-then}
 use Rattle.cpu.specs.declared.Walked.{Walked}
 
-abbrev pub walked : ℕ → Ended → Walked
-walked first q = record { ended = q; first = first }
+abbrev pub walked : Due → ℕ → Ended → Walked
+walked due first q = record { ended = q; first = first; due = due }
+
+-- where a line is due, the one; otherwise the other
+abbrev pub heed : {A : Type 0} → Due → A → A → A
+heed (Through vector) a b = a
+heed Quiet a b = b
 
 -- n more steps on a full memory, after k; the last of them put out `first`
-unfoldable pub walking : ℕ → ℕ → ℕ → Machine → Micro Walked
-walking zero k first s = done (walked first (ended Made k s))
-walking (suc n) k first s = do
-  q ← stepFull s
-  cond (isMade (q .reason)) (walking n (k + 1) (q .first) (q .machine)) (done (walked (q .first) (ended (q .reason) k (q .machine))))
+unfoldable pub walking : ℕ → ℕ → ℕ → Lines → Machine → Micro Walked
+walking zero k first lines s = done (walked Quiet first (ended Made k s))
+walking (suc n) k first lines s =
+    heed (due lines s) (done (walked (due lines s) 0 (ended Made k s))) (do
+      q ← stepFull lines s
+      cond (isMade (q .reason)) (walking n (k + 1) (q .first) lines (q .machine)) (done (walked Quiet (q .first) (ended (q .reason) k (q .machine)))))
+
+-- two tests, one after the other
+pub both : (a b : Bool) → a ≡ true → b ≡ true → (a && b) ≡ true
+both a b e f = rw (e, f)
+
+pub first-not : (a b : Bool) → a ≡ false → (a && b) ≡ false
+first-not a b e = rw e
+
+pub second-not : (a b : Bool) → b ≡ false → (a && b) ≡ false
+second-not true b e = e
+second-not false b e = refl
+
+-- the last level of NMI before step k, where `from` were made before: the first step records the present one
+abbrev pub level : ℕ → ℕ → Bool → Bool → Bool
+level from k last present = cond (ltb from k) present last
+
+-- where NMI does not fall at first, it does not fall later
+pub level-held : (from k : ℕ) (last present : Bool) → (last && not present) ≡ false → (level from k last present && not present) ≡ false
+level-held from k last present h = go (ltb from k) present h
+  where
+    go : (t present : Bool) → (last && not present) ≡ false → (cond t present last && not present) ≡ false
+    go true true h = refl
+    go true false h = refl
+    go false present h = h
+
+-- the first step records the present level
+pub level-next : (from k : ℕ) (last present : Bool) → from ≤ k → present ≡ level from (k + 1) last present
+level-next from k last present h = let l : from < k + 1 = omega arith in rw (lt-ltb from (k + 1) l)
+
+pub level-first : (from : ℕ) (last present : Bool) → last ≡ level from from last present
+level-first from last present = let l : from ≤ from = omega arith in rw (le-ltb from from l)
 
 -- ---- inside the loop, before step k of a bound
 
-pub walk-end : (k first : ℕ) (s : Machine) (m : List ℕ) → Gives (walking 0 k first s) m (walked first (ended Made k s)) m
+pub walk-end : (k first : ℕ) (lines : Lines) (s : Machine) (m : List ℕ) → Gives (walking 0 k first lines s) m (walked Quiet first (ended Made k s)) m
 unfolding walking
-walk-end k first s m = refl
+walk-end k first lines s m = refl
 
-module _ (s : Machine) (m : List ℕ) (q : Stepped) (m′ : List ℕ) (g : Gives (stepFull s) m q m′) (bound k first : ℕ) (l : k < bound) where
-  pub walk-next : isMade (q .reason) ≡ true
-      → exec (walking (bound - k) k first s) m ≡ exec (walking (bound - (k + 1)) (k + 1) (q .first) (q .machine)) m′
+module _ (lines : Lines) (s : Machine) (m : List ℕ) (bound k first : ℕ) (l : k < bound) where
+  one-more : bound - k ≡ suc (bound - (k + 1))
+  one-more = omega arith
+
+  pub walk-due : (vector : ℕ) → due lines s ≡ Through vector
+      → Gives (walking (bound - k) k first lines s) m (walked (Through vector) 0 (ended Made k s)) m
   unfolding walking
-  walk-next h =
-      let e : bound - k ≡ suc (bound - (k + 1)) = omega arith in
-      rw e (exec-then (stepFull s) _ m g ∙ rw h)
+  walk-due vector d = rw (one-more, d)
 
-  pub walk-refused : isMade (q .reason) ≡ false
-      → Gives (walking (bound - k) k first s) m (walked (q .first) (ended (q .reason) k (q .machine))) m′
-  unfolding walking
-  walk-refused h =
-      let e : bound - k ≡ suc (bound - (k + 1)) = omega arith in
-      rw e (exec-then (stepFull s) _ m g ∙ rw h)
+  module _ (q : Stepped) (m′ : List ℕ) (none : due lines s ≡ Quiet) (g : Gives (stepFull lines s) m q m′) where
+    pub walk-next : isMade (q .reason) ≡ true
+        → exec (walking (bound - k) k first lines s) m ≡ exec (walking (bound - (k + 1)) (k + 1) (q .first) lines (q .machine)) m′
+    unfolding walking
+    walk-next h = rw (one-more, none) (exec-then (stepFull lines s) _ m g ∙ rw h)
 
--- ---- a run and a step by it
-
-run-in : Walked × List ℕ → Ended × List ℕ
-run-in w = (w .0 .ended, w .1)
-
-same-run : (n k first : ℕ) (s : Machine) (m : List ℕ) → run-in (exec (walking n k first s) m) ≡ exec (runFull n k s) m
-unfolding walking runFull run-in
-same-run zero k first s m = refl
-same-run (suc n) k first s m =
-    let w = exec (stepFull s) m in
-    ap run-in (exec-bind (stepFull s) _ m) ∙ go (isMade (w .0 .reason)) (w .0) (w .1) (same-run n (k + 1) (w .0 .first) (w .0 .machine) (w .1)) ∙ sym (exec-bind (stepFull s) _ m)
-  where
-    go : (t : Bool) (q : Stepped) (e : List ℕ) → run-in (exec (walking n (k + 1) (q .first) (q .machine)) e) ≡ exec (runFull n (k + 1) (q .machine)) e
-        → run-in (exec (cond t (walking n (k + 1) (q .first) (q .machine)) (done (walked (q .first) (ended (q .reason) k (q .machine))))) e)
-        ≡ exec (cond t (runFull n (k + 1) (q .machine)) (done (ended (q .reason) k (q .machine)))) e
-    go true q e h = h
-    go false q e h = refl
-
-pub walk-run : (n k first : ℕ) (s : Machine) (m : List ℕ) {w : Walked} {m′ : List ℕ} → Gives (walking n k first s) m w m′
-    → Gives (runFull n k s) m (w .ended) m′
-unfolding run-in
-walk-run n k first s m g = sym (same-run n k first s m) ∙ ap run-in g
-
-step-in : Walked × List ℕ → Stepped × List ℕ
-step-in w = (stepped (w .0 .ended .reason) (w .0 .first) (w .0 .ended .machine), w .1)
-
--- a step is a run with the bound 1
-one-step : (r : Reason) (first : ℕ) (s : Machine) (m : List ℕ)
-    → step-in (exec (cond (isMade r) (walking 0 1 first s) (done (walked first (ended r 0 s)))) m) ≡ (stepped r first s, m)
-unfolding walking step-in
-one-step Made first s m = refl
-one-step MemoryNotFull first s m = refl
-one-step NoCycleRoom first s m = refl
-one-step NotAnOpcode first s m = refl
-one-step BoundTooHigh first s m = refl
-
-pub walk-step : (first : ℕ) (s : Machine) (m : List ℕ) {w : Walked} {m′ : List ℕ} → Gives (walking 1 0 first s) m w m′
-    → Gives (stepFull s) m (stepped (w .ended .reason) (w .first) (w .ended .machine)) m′
-unfolding walking step-in
-walk-step first s m g =
-    let p = exec (stepFull s) m in
-    sym (ap step-in (exec-bind (stepFull s) _ m) ∙ one-step (p .0 .reason) (p .0 .first) (p .0 .machine) (p .1)) ∙ ap step-in g
+    pub walk-refused : isMade (q .reason) ≡ false
+        → Gives (walking (bound - k) k first lines s) m (walked Quiet (q .first) (ended (q .reason) k (q .machine))) m′
+    unfolding walking
+    walk-refused h = rw (one-more, none) (exec-then (stepFull lines s) _ m g ∙ rw h)

@@ -7,11 +7,11 @@ use Rattle.instruction.specs.declared.Decoded.{Decoded}
 use Rattle.instruction.specs.declared.Decoded.the-variants.{Defined, Undefined}
 use Rattle.instruction.specs.Opcodes.{decoded}
 use Rattle.instruction.specs.Table.{ruled}
+use Rattle.manual.specs.declared.Lines.{Lines}
 use Rattle.manual.specs.declared.Machine.{Machine}
-use Rattle.manual.specs.declared.Stepped.{Stepped}
-use Rattle.manual.specs.declared.Reason.the-variants.{Made}
+use Rattle.manual.specs.declared.Due.the-variants.{Quiet}
 use Rattle.manual.specs.Micro.{exec, Gives}
-use Rattle.manual.specs.Outcomes.{machineOf, stepped}
+use Rattle.manual.specs.Interrupts.{due}
 use Rattle.manual.specs.Instructions.{perform}
 use Rattle.manual.specs.Stepping.{highestCount, stepFull}
 use Rattle.manual.specs.Theorems.Extra.{extra-most}
@@ -20,26 +20,25 @@ use Rattle.manual.specs.Theorems.StepLaws.{opcodeOf, step-defined, step-undefin
 use Rattle.dispatch.specs.declared.Dispatched.{Dispatched}
 use Rattle.dispatch.specs.Dispatching.{counted, dispatched, stepBy, cyclesOf}
 
--- Where there is room, the step is what the byte at the counter does, and it takes at most seven cycles.
-pub record StepsBy (s : Machine) (m : List ℕ) (q : Dispatched) (m′ : List ℕ) : Type 0 where
-  pub gives : Gives (stepFull s) m (stepBy s q) m′
+-- Where there is room and no line to serve, the step is what the byte at the counter does, and it takes at most seven cycles.
+pub record StepsBy (lines : Lines) (s : Machine) (m : List ℕ) (q : Dispatched) (m′ : List ℕ) : Type 0 where
+  pub gives : Gives (stepFull lines s) m (stepBy lines s q) m′
   pub few : cyclesOf q ≤ 7
 
-module _ (s : Machine) (m : List ℕ) (room : s .cycles ≤ highestCount) where
-  by-meaning : (d : Decoded) → decoded (opcodeOf s m) ≡ d → StepsBy s m (exec (dispatched d (s .registers)) m .0) (exec (dispatched d (s .registers)) m .1)
+module _ (lines : Lines) (s : Machine) (m : List ℕ) (room : s .cycles ≤ highestCount) (none : due lines s ≡ Quiet) where
+  by-meaning : (d : Decoded) → decoded (opcodeOf s m) ≡ d → StepsBy lines s m (exec (dispatched d (s .registers)) m .0) (exec (dispatched d (s .registers)) m .1)
   unfolding dispatched
   by-meaning (Defined e) is =
       let w = exec (perform (e .instruction) (e .mode) (s .registers)) m in
-      let total : s .cycles + e .cycles + w .0 .extra ≡ s .cycles + (e .cycles + w .0 .extra) = omega arith in
-      subst (λ (p : Dispatched × List ℕ). StepsBy s m (p .0) (p .1)) (sym (exec-bind (perform (e .instruction) (e .mode) (s .registers)) _ m))
+      subst (λ (p : Dispatched × List ℕ). StepsBy lines s m (p .0) (p .1)) (sym (exec-bind (perform (e .instruction) (e .mode) (s .registers)) _ m))
       (record {
-        gives = step-defined s m e {f = w .0} room is refl ∙ ap (λ (n : ℕ). (stepped Made (w .0 .first) (machineOf (w .0 .registers) n), w .1)) total;
+        gives = step-defined lines s m e {f = w .0} room none is refl;
         few = omega (arith, ruled (opcodeOf s m) e is .total-most, extra-most (e .instruction) (e .mode) (s .registers) m);
       })
-  by-meaning Undefined is = record { gives = step-undefined s m room is; few = omega arith }
+  by-meaning Undefined is = record { gives = step-undefined lines s m room none is; few = omega arith }
 
   pub step-by : (opcode : ℕ) {q : Dispatched} {m′ : List ℕ} → opcode ≡ opcodeOf s m → Gives (dispatched (decoded opcode) (s .registers)) m q m′
-      → StepsBy s m q m′
+      → StepsBy lines s m q m′
   step-by opcode e g =
-      subst (λ (p : Dispatched × List ℕ). StepsBy s m (p .0) (p .1)) (ap (λ (k : ℕ). exec (dispatched (decoded k) (s .registers)) m) (sym e) ∙ g)
+      subst (λ (p : Dispatched × List ℕ). StepsBy lines s m (p .0) (p .1)) (ap (λ (k : ℕ). exec (dispatched (decoded k) (s .registers)) m) (sym e) ∙ g)
       (by-meaning (decoded (opcodeOf s m)) refl)

@@ -1,4 +1,4 @@
--- A long run in parts: after each part, the whole run is what was made and the run of what is left.
+-- A long run with idle lines in parts: after each part, the whole run is what was made and the run of what is left.
 use Prim.Native.Nat.{ℕ, _+_, _-_, _≤_}
 use mathlib.Core.Path.{_≡_, refl, ap, sym, _∙_}
 use mathlib.Core.Bool.{Bool, true, false}
@@ -13,6 +13,7 @@ use Rattle.manual.specs.declared.Reason.{Reason}
 use Rattle.manual.specs.declared.Reason.the-variants.{Made, MemoryNotFull, NoCycleRoom, NotAnOpcode, BoundTooHigh}
 use Rattle.manual.specs.Micro.{exec, Gives}
 use Rattle.manual.specs.Outcomes.{isMade, ended}
+use Rattle.manual.specs.Interrupts.{idle}
 use Rattle.manual.specs.Stepping.{fullMemory, longRun}
 use Rattle.manual.specs.Theorems.StepLaws.{long-short, long-whole}
 use Rattle.manual.specs.Theorems.RunAnswers.{Ends, all-made, no-cycle-room, not-an-opcode, run-ends}
@@ -28,22 +29,22 @@ was-made BoundTooHigh e = let z : _≡_ {A = ℕ} 0 1 = cc in absurd (omega arit
 pub was-stopped : (r : Reason) → isMade r ≡ false → r ≡ Made → ⊥
 was-stopped r e p = let z : true ≡ false = rw p at e in let y : _≡_ {A = ℕ} 0 1 = cc in omega arith
 
-made-all : {k : ℕ} {s : Machine} {m : List ℕ} {q : Ended} {m′ : List ℕ} → Ends k s m q m′ → q .reason ≡ Made → q .steps ≡ k
+made-all : {k : ℕ} {s : Machine} {m : List ℕ} {q : Ended} {m′ : List ℕ} → Ends k idle s m q m′ → q .reason ≡ Made → q .steps ≡ k
 made-all (all-made led) p = refl
 made-all (no-cycle-room l led r) p = let z : _≡_ {A = ℕ} 0 1 = cc in absurd (omega arith)
 made-all (not-an-opcode l led r) p = let z : _≡_ {A = ℕ} 0 1 = cc in absurd (omega arith)
 
-at-most : {k : ℕ} {s : Machine} {m : List ℕ} {q : Ended} {m′ : List ℕ} → Ends k s m q m′ → q .steps ≤ k
+at-most : {k : ℕ} {s : Machine} {m : List ℕ} {q : Ended} {m′ : List ℕ} → Ends k idle s m q m′ → q .steps ≤ k
 at-most (all-made led) = omega arith
 at-most (no-cycle-room l led r) = omega arith
 at-most (not-an-opcode l led r) = omega arith
 
-module _ (size k : ℕ) (s : Machine) (m : List ℕ) {q : Ended} {m′ : List ℕ} (g : Gives (longRun size k s) m q m′) where
+module _ (size k : ℕ) (s : Machine) (m : List ℕ) {q : Ended} {m′ : List ℕ} (g : Gives (longRun size k idle s) m q m′) where
   refused : (size ≡ fullMemory → ⊥) → q ≡ ended MemoryNotFull 0 s
-  refused f = ap (λ w. w .0) (sym g ∙ long-short size k s m f)
+  refused f = ap (λ w. w .0) (sym g ∙ long-short size k idle s m f)
 
-  full : size ≡ fullMemory → Ends k s m q m′
-  full e = run-ends k s m (rw (long-whole size k s e) at g)
+  full : size ≡ fullMemory → Ends k idle s m q m′
+  full e = run-ends k idle s m (rw (long-whole size k idle s e) at g)
 
   steps-by : (t : Bool) → eqb size fullMemory ≡ t → q .steps ≤ k
   steps-by true e = at-most (full (eqb-true size fullMemory e))
@@ -55,46 +56,46 @@ module _ (size k : ℕ) (s : Machine) (m : List ℕ) {q : Ended} {m′ : List �
 
   module _ (n : ℕ) where
     lunch-by : (t : Bool) → eqb size fullMemory ≡ t → q .reason ≡ Made
-        → exec (longRun size (k + n) s) m ≡ added k (exec (longRun size n (q .machine)) m′)
+        → exec (longRun size (k + n) idle s) m ≡ added k (exec (longRun size n idle (q .machine)) m′)
     lunch-by true e made =
         let whole = eqb-true size fullMemory e in
-        rw (long-whole size (k + n) s whole, long-whole size n (q .machine) whole)
-        (rw (made-all (full whole) made) at (full-lunch k n s m (rw (long-whole size k s whole) at g) made))
+        rw (long-whole size (k + n) idle s whole, long-whole size n idle (q .machine) whole)
+        (rw (made-all (full whole) made) at (full-lunch k n idle s m (rw (long-whole size k idle s whole) at g) made))
     lunch-by false e made =
         let other = ap (λ (p : Ended). p .reason) (refused (eqb-false size fullMemory e)) in
         let z : _≡_ {A = ℕ} 0 1 = cc in absurd (omega arith)
 
     -- A part that was made, and the rest.
-    pub long-lunch : q .reason ≡ Made → exec (longRun size (k + n) s) m ≡ added k (exec (longRun size n (q .machine)) m′)
+    pub long-lunch : q .reason ≡ Made → exec (longRun size (k + n) idle s) m ≡ added k (exec (longRun size n idle (q .machine)) m′)
     long-lunch = lunch-by (eqb size fullMemory) refl
 
-    stopped-by : (t : Bool) → eqb size fullMemory ≡ t → (q .reason ≡ Made → ⊥) → Gives (longRun size (k + n) s) m q m′
+    stopped-by : (t : Bool) → eqb size fullMemory ≡ t → (q .reason ≡ Made → ⊥) → Gives (longRun size (k + n) idle s) m q m′
     stopped-by true e f =
         let whole = eqb-true size fullMemory e in
-        rw (long-whole size (k + n) s whole) (full-stopped k n s m (rw (long-whole size k s whole) at g) f)
+        rw (long-whole size (k + n) idle s whole) (full-stopped k n idle s m (rw (long-whole size k idle s whole) at g) f)
     stopped-by false e f =
         let other = eqb-false size fullMemory e in
-        long-short size (k + n) s m other ∙ sym (long-short size k s m other) ∙ g
+        long-short size (k + n) idle s m other ∙ sym (long-short size k idle s m other) ∙ g
 
     -- A part that was stopped is the whole.
-    pub long-stopped : (q .reason ≡ Made → ⊥) → Gives (longRun size (k + n) s) m q m′
+    pub long-stopped : (q .reason ≡ Made → ⊥) → Gives (longRun size (k + n) idle s) m q m′
     long-stopped = stopped-by (eqb size fullMemory) refl
 
 -- ---- the loop
 
 -- what the whole run gives, where j steps are made and n are left from here
 abbrev pub Whole : Ended × List ℕ → ℕ → ℕ → ℕ → Machine → List ℕ → Type 0
-Whole w j size n s m = w ≡ added j (exec (longRun size n s) m)
+Whole w j size n s m = w ≡ added j (exec (longRun size n idle s) m)
 
 added-added : (j k : ℕ) (w : Ended × List ℕ) → added j (added k w) ≡ added (j + k) w
 added-added j k w = rw (add-assoc j k (w .0 .steps))
 
 -- before the first part
-pub begun : (size n : ℕ) (s : Machine) (m : List ℕ) → Whole (exec (longRun size n s) m) 0 size (n - 0) s m
-begun size n s m = let all : n - 0 ≡ n = omega arith in rw (all, zero-add (exec (longRun size n s) m .0 .steps))
+pub begun : (size n : ℕ) (s : Machine) (m : List ℕ) → Whole (exec (longRun size n idle s) m) 0 size (n - 0) s m
+begun size n s m = let all : n - 0 ≡ n = omega arith in rw (all, zero-add (exec (longRun size n idle s) m .0 .steps))
 
 module _ {w : Ended × List ℕ} (j size steps k : ℕ) (s : Machine) (m : List ℕ) {q : Ended} {m′ : List ℕ}
-    (h : Whole w j size (steps - j) s m) (fits : k ≤ steps - j) (g : Gives (longRun size k s) m q m′) where
+    (h : Whole w j size (steps - j) s m) (fits : k ≤ steps - j) (g : Gives (longRun size k idle s) m q m′) where
   abbrev rest : ℕ
   rest = steps - (j + k)
 
@@ -106,10 +107,10 @@ module _ {w : Ended × List ℕ} (j size steps k : ℕ) (s : Machine) (m : List 
   turn {size′} e made =
       rw e
       (h
-      ∙ ap (λ (i : ℕ). added j (exec (longRun size i s) m)) split
+      ∙ ap (λ (i : ℕ). added j (exec (longRun size i idle s) m)) split
       ∙ ap (added j) (long-lunch size k s m g rest made)
-      ∙ added-added j k (exec (longRun size rest (q .machine)) m′))
+      ∙ added-added j k (exec (longRun size rest idle (q .machine)) m′))
 
   -- it was stopped
   pub halt : (q .reason ≡ Made → ⊥) → w ≡ added j (q, m′)
-  halt f = h ∙ ap (λ (i : ℕ). added j (exec (longRun size i s) m)) split ∙ ap (added j) (long-stopped size k s m g rest f)
+  halt f = h ∙ ap (λ (i : ℕ). added j (exec (longRun size i idle s) m)) split ∙ ap (added j) (long-stopped size k s m g rest f)

@@ -1,10 +1,12 @@
 // A long run in parts, so that whoever waits sees how far it is.
 ghost use lib.ListN.{length};
 ghost use Rattle.manual.specs.Micro.{Gives};
+ghost use Rattle.manual.specs.Interrupts.{idle};
 ghost use Rattle.manual.specs.Stepping.{longRun};
 use cpu::long_run;
 use libc::STDERR_FILENO;
 use manual::Ended;
+use manual::Lines;
 use manual::Machine;
 
 // Few enough that the line below is renewed several times a second.
@@ -26,14 +28,14 @@ pub(crate) fn wipe() {
     }
 }
 
-// A run of at most `steps` steps.
+// A run of at most `steps` steps, with idle lines.
 pub(crate) fn run_on(start: Machine, steps: u64, image: &mut [u8]) -> Ended
-    ensures { λ r. ⌜ Gives (longRun (length (now (image .entry))) steps start) (now (image .entry)) r (now (image .exit)) ⌝ }
+    ensures { λ r. ⌜ Gives (longRun (length (now (image .entry))) steps idle start) (now (image .entry)) r (now (image .exit)) ⌝ }
 {
     let mut machine = start;
     let mut made: u64 = 0;
     while PART < steps - made {
-        let ended = long_run(machine, PART, image);
+        let ended = long_run(machine, PART, Lines::idle(), image);
         let reason = ended.reason;
         if !reason.is_made() {
             return Ended::new(reason, made + ended.steps, ended.machine);
@@ -42,7 +44,7 @@ pub(crate) fn run_on(start: Machine, steps: u64, image: &mut [u8]) -> Ended
         made += PART;
         show(made);
     }
-    let last = long_run(machine, steps - made, image);
+    let last = long_run(machine, steps - made, Lines::idle(), image);
     let reason = last.reason;
     Ended::new(reason, made + last.steps, last.machine)
 }

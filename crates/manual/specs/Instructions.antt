@@ -1,6 +1,6 @@
 -- The 56 instructions: what each reads, stores and leaves in the registers, and the cycles that it adds to its base.
 use Prim.Native.Nat.{ℕ, _+_}
-use mathlib.Core.Bool.{true, cond}
+use mathlib.Core.Bool.{cond}
 use lib.Dec.{eqb}
 use lib.Bits.{bitAnd, bitOr, bitXor}
 use Rattle.registers.specs.declared.Registers.{Registers}
@@ -19,14 +19,15 @@ use Rattle.manual.specs.declared.Effect.{Effect}
 use Rattle.manual.specs.Micro.{Micro, done, _>>=_, _>>_, byte, store}
 use Rattle.manual.specs.Words.{address, joined}
 use Rattle.manual.specs.Outcomes.{leavesAt, leaves}
-use Rattle.registers.specs.State.{setA, setPC, setV, setC, setI, setStatus, flags}
+use Rattle.registers.specs.State.{setA, setPC, setV, setC, setStatus, flags}
 use Rattle.manual.specs.Flags.{shown}
 use Rattle.manual.specs.Arithmetic.{binarySum, binaryDifference}
 use Rattle.manual.specs.Decimal.{decimalSum, decimalDifference, decimalShown}
 use Rattle.manual.specs.Branching.{compared, tested, holds, branched}
-use Rattle.manual.specs.Addressing.{operand, word, target}
+use Rattle.manual.specs.Addressing.{operand, target}
 use Rattle.manual.specs.IndexRegisters.{loadA, loadX, loadY, internal}
 use Rattle.manual.specs.Stack.{push, pull, pushAddress, pullAddress}
+use Rattle.manual.specs.Interrupts.{irqVector, enter}
 use Rattle.manual.specs.Shifting.{modified, modifiedFlags}
 
 -- ADC and SBC, decimal where D is set (chapter 2)
@@ -122,10 +123,8 @@ perform PLP mode r = do
   (b, r₁) ← pull r
   done (leaves (setStatus (pulledStatus b) (advanced mode r₁)) 0)
 perform BRK mode r = do
-  r₁ ← pushAddress (operand r 2) r
-  r₂ ← push (pushedByte (r .status)) r₁
-  goal ← word 0xFFFE 0xFFFF
-  done (leaves (setPC goal (flags (setI true) r₂)) 0)
+  r₁ ← enter (operand r 2) (pushedByte (r .status)) irqVector r
+  done (leaves r₁ 0)
 perform RTI mode r = do
   (b, r₁) ← pull r
   (back, r₂) ← pullAddress r₁

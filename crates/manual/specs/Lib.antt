@@ -9,6 +9,7 @@ pub mod Addressing
 pub mod IndexRegisters
 pub mod Stack
 pub mod Shifting
+pub mod Interrupts
 pub mod Instructions
 pub mod Stepping
 pub mod ReadList

@@ -17,8 +17,9 @@ leavesAt first r extra = record { registers = r; extra = extra; first = first }
 abbrev pub leaves : Registers → ℕ → Effect
 leaves r extra = leavesAt 0 r extra
 
-abbrev pub machineOf : Registers → ℕ → Machine
-machineOf r cycles = record { registers = r; cycles = cycles }
+-- the registers, the cycle count, and the last level of NMI
+abbrev pub machineOf : Registers → ℕ → Bool → Machine
+machineOf r cycles nmi = record { registers = r; cycles = cycles; nmi = nmi }
 
 -- 0: the step, or every step of the run, was made
 -- 1: the lent memory is not 65,536 bytes long

@@ -1,7 +1,7 @@
 -- The bytes a step reads, as docs/RULES.md states them, apart from what the definition reads (it gives only the address that a mode leads to,
 -- and the state between two steps): the opcode; operand bytes by mode; two pointer bytes
 -- for (zp,X), (zp),Y and JMP indirect; the target of a read and of a memory modification; pulled bytes; FFFE and FFFF for BRK. A store's
--- target is not read. That the definition reads exactly these is a theorem (Theorems/Reads).
+-- target is not read. A step that serves a line reads the two bytes of its vector and nothing else. That the definition reads exactly these is a theorem (Theorems/Reads).
 use Prim.Native.Nat.{ℕ, zero, suc, _+_}
 use mathlib.Core.Bool.{Bool, cond}
 use mathlib.Core.List.{List, [], _∷_, _++_}
@@ -16,11 +16,15 @@ use Rattle.instruction.specs.declared.Decoded.{Decoded}
 use Rattle.instruction.specs.declared.Decoded.the-variants.{Defined, Undefined}
 use Rattle.instruction.specs.Modes.{operandBytes}
 use Rattle.instruction.specs.Opcodes.{decoded}
+use Rattle.manual.specs.declared.Lines.{Lines}
 use Rattle.manual.specs.declared.Machine.{Machine}
+use Rattle.manual.specs.declared.Due.{Due}
+use Rattle.manual.specs.declared.Due.the-variants.{Through, Quiet}
 use Rattle.manual.specs.Micro.{exec}
 use Rattle.manual.specs.Words.{low, page, joined}
 use Rattle.manual.specs.Addressing.{operand, target}
 use Rattle.manual.specs.Outcomes.{isMade}
+use Rattle.manual.specs.Interrupts.{due}
 use Rattle.manual.specs.Stepping.{fullMemory, highestCount, highestBound, stepFull}
 
 -- the modes told apart by number
@@ -101,25 +105,28 @@ abbrev pub listedEntry : Decoded → Registers → List ℕ → List ℕ
 listedEntry (Defined e) r m = listed (e .instruction) (e .mode) r m
 listedEntry Undefined r m = []
 
--- a step refused with 1 or 2 reads nothing, one refused with 3 reads the opcode
-abbrev pub listedStepFull : Machine → List ℕ → List ℕ
-listedStepFull s m =
-    cond (ltb highestCount (s .cycles)) []
-    (s .registers .counter ∷ listedEntry (decoded (getD m (s .registers .counter) 0)) (s .registers) m)
+-- the vector of a line that is served, or the opcode and what its entry lists
+abbrev pub listedDue : Due → Registers → List ℕ → List ℕ
+listedDue (Through vector) r m = vector ∷ (vector + 1) ∷ []
+listedDue Quiet r m = r .counter ∷ listedEntry (decoded (getD m (r .counter) 0)) r m
 
-abbrev pub listedStep : ℕ → Machine → List ℕ → List ℕ
-listedStep size s m = cond (eqb size fullMemory) (listedStepFull s m) []
+-- a step refused with 1 or 2 reads nothing, one refused with 3 reads the opcode
+abbrev pub listedStepFull : Lines → Machine → List ℕ → List ℕ
+listedStepFull lines s m = cond (ltb highestCount (s .cycles)) [] (listedDue (due lines s) (s .registers) m)
+
+abbrev pub listedStep : ℕ → Lines → Machine → List ℕ → List ℕ
+listedStep size lines s m = cond (eqb size fullMemory) (listedStepFull lines s m) []
 
 -- a run reads what its steps read, a refused last one included; one answered 1 or 4 reads nothing
-abbrev pub listedRunFull : ℕ → Machine → List ℕ → List ℕ
-listedRunFull zero s m = []
-listedRunFull (suc n) s m =
-    listedStepFull s m
-    ++ cond (isMade (exec (stepFull s) m .0 .reason)) (listedRunFull n (exec (stepFull s) m .0 .machine) (exec (stepFull s) m .1)) []
+abbrev pub listedRunFull : ℕ → Lines → Machine → List ℕ → List ℕ
+listedRunFull zero lines s m = []
+listedRunFull (suc n) lines s m =
+    let w = exec (stepFull lines s) m in
+    listedStepFull lines s m ++ cond (isMade (w .0 .reason)) (listedRunFull n lines (w .0 .machine) (w .1)) []
 
-abbrev pub listedRun : ℕ → ℕ → Machine → List ℕ → List ℕ
-listedRun size bound s m = cond (eqb size fullMemory) (cond (leb bound highestBound) (listedRunFull bound s m) []) []
+abbrev pub listedRun : ℕ → ℕ → Lines → Machine → List ℕ → List ℕ
+listedRun size bound lines s m = cond (eqb size fullMemory) (cond (leb bound highestBound) (listedRunFull bound lines s m) []) []
 
 -- a run of any number of steps, likewise
-abbrev pub listedLongRun : ℕ → ℕ → Machine → List ℕ → List ℕ
-listedLongRun size bound s m = cond (eqb size fullMemory) (listedRunFull bound s m) []
+abbrev pub listedLongRun : ℕ → ℕ → Lines → Machine → List ℕ → List ℕ
+listedLongRun size bound lines s m = cond (eqb size fullMemory) (listedRunFull bound lines s m) []

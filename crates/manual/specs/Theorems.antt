@@ -21,4 +21,5 @@ pub mod Examples
 pub mod InstructionLaws
 pub mod Extra
 pub mod FirstAddress
+pub mod Interrupts
 pub mod Call

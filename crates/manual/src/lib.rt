@@ -1,6 +1,7 @@
 // The values that the definition in specs/ and the code above it share, and how they are made. The definition itself is no code.
 ghost use mathlib.Core.Path.{_≡_};
 ghost use Rattle.manual.specs.Outcomes.{leavesAt, leaves, machineOf, number, isMade, stepped, ended};
+ghost use Rattle.manual.specs.Interrupts.{idle};
 use registers::Registers;
 
 // The length of a whole memory, the highest cycle count from which a step is made, and the highest bound of a run.
@@ -10,10 +11,28 @@ pub const HIGHEST_COUNT: u64 = 18446744073709551608;
 
 pub const HIGHEST_BOUND: u64 = 1000000;
 
-// What a step changes besides memory: the registers and the cycle count.
+// Where NMI leads, and where IRQ and BRK do.
+pub const NMI_VECTOR: u16 = 0xFFFA;
+
+pub const IRQ_VECTOR: u16 = 0xFFFE;
+
+// What a step changes besides memory: the registers, the cycle count, and the last level of NMI, true where it was high.
 pub struct Machine {
     pub registers: Registers,
     pub cycles: u64,
+    pub nmi: bool,
+}
+
+// The present levels of the interrupt lines, true where one is high. They hold for a whole step or run.
+pub struct Lines {
+    pub irq: bool,
+    pub nmi: bool,
+}
+
+// What is due before an opcode: a line is served through its vector, or none is.
+pub enum Due {
+    Through(u16),
+    Quiet,
 }
 
 // Where an addressing mode leads; whether that is another page than the one it was counted from, the page of an indexed
@@ -88,12 +107,25 @@ pub fn leaves(registers: Registers, extra: u8) -> Effect
 
 impl Machine {
     // The machine from its parts.
-    pub fn new(registers: Registers, cycles: u64) -> Machine
-        ensures { λ r. ⌜ r ≡ machineOf registers cycles ⌝ }
+    pub fn new(registers: Registers, cycles: u64, nmi: bool) -> Machine
+        ensures { λ r. ⌜ r ≡ machineOf registers cycles nmi ⌝ }
     {
         Machine {
             registers: registers,
             cycles: cycles,
+            nmi: nmi,
+        }
+    }
+}
+
+impl Lines {
+    // No line is low.
+    pub fn idle() -> Lines
+        ensures { λ r. ⌜ r ≡ idle ⌝ }
+    {
+        Lines {
+            irq: true,
+            nmi: true,
         }
     }
 }

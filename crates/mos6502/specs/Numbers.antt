@@ -1,23 +1,29 @@
--- The core on numbers: a step and a run on the registers as one number.
+-- The core on numbers: a step and a run on the registers as one number, with the levels of the lines as another.
 use Prim.Native.Nat.{ℕ}
-use mathlib.Core.Bool.{Bool, cond}
+use mathlib.Core.Bool.{Bool, not, cond}
 use lib.Dec.{ltb}
-use Rattle.packing.specs.Packed.{packed, unpacked}
+use Rattle.registers.specs.StatusByte.{bitAt}
+use Rattle.packing.specs.Packed.{packed, unpacked, unpackedNmi}
+use Rattle.manual.specs.declared.Lines.{Lines}
 use Rattle.manual.specs.declared.Machine.{Machine}
 use Rattle.manual.specs.declared.Stepped.{Stepped}
 use Rattle.manual.specs.declared.Ended.{Ended}
 use Rattle.manual.specs.Micro.{Micro, done, _>>=_}
 use Rattle.manual.specs.Outcomes.{machineOf, number, isMade}
 use Rattle.manual.specs.Stepping.{step, run, longRun}
-use Rattle.cpu.specs.declared.Walked.{Walked}
-use Rattle.cpu.specs.Walking.{walking}
+use Rattle.cpu.specs.declared.Travelled.{Travelled}
+use Rattle.cpu.specs.Travelling.{travelling}
 
 abbrev pub machineFrom : ℕ → ℕ → Machine
-machineFrom registers cycles = machineOf (unpacked registers) cycles
+machineFrom registers cycles = machineOf (unpacked registers) cycles (unpackedNmi registers)
+
+-- bit 0 is set where NMI is low, bit 1 where IRQ is: 0 for idle lines
+abbrev pub linesFrom : ℕ → Lines
+linesFrom lines = record { irq = not (bitAt 1 lines); nmi = not (bitAt 0 lines) }
 
 -- the two numbers are the machine's where a step was made, and otherwise as they were given
 abbrev pub registersAfter : Bool → Machine → ℕ → ℕ
-registersAfter made s registers = cond made (packed (s .registers)) registers
+registersAfter made s registers = cond made (packed (s .registers) (s .nmi)) registers
 
 abbrev pub cyclesAfter : Bool → Machine → ℕ → ℕ
 cyclesAfter made s cycles = cond made (s .cycles) cycles
@@ -52,30 +58,30 @@ runNumbers registers cycles q = record {
   cycles = cyclesAfter (ltb 0 (q .steps)) (q .machine) cycles;
 }
 
-unfoldable pub stepOnNumbers : ℕ → ℕ → ℕ → Micro StepNumbers
-stepOnNumbers size registers cycles = do
-  q ← step size (machineFrom registers cycles)
+unfoldable pub stepOnNumbers : ℕ → ℕ → ℕ → ℕ → Micro StepNumbers
+stepOnNumbers size lines registers cycles = do
+  q ← step size (linesFrom lines) (machineFrom registers cycles)
   done (stepNumbers registers cycles q)
 
-unfoldable pub runOnNumbers : ℕ → ℕ → ℕ → ℕ → Micro RunNumbers
-runOnNumbers size bound registers cycles = do
-  q ← run size bound (machineFrom registers cycles)
+unfoldable pub runOnNumbers : ℕ → ℕ → ℕ → ℕ → ℕ → Micro RunNumbers
+runOnNumbers size bound lines registers cycles = do
+  q ← run size bound (linesFrom lines) (machineFrom registers cycles)
   done (runNumbers registers cycles q)
 
-unfoldable pub longRunOnNumbers : ℕ → ℕ → ℕ → ℕ → Micro RunNumbers
-longRunOnNumbers size bound registers cycles = do
-  q ← longRun size bound (machineFrom registers cycles)
+unfoldable pub longRunOnNumbers : ℕ → ℕ → ℕ → ℕ → ℕ → Micro RunNumbers
+longRunOnNumbers size bound lines registers cycles = do
+  q ← longRun size bound (linesFrom lines) (machineFrom registers cycles)
   done (runNumbers registers cycles q)
 
--- what comes back of the loop, for either: a run's numbers, and the address that the last step put out first
-pub record WalkNumbers : Type 0 where
+-- what comes back of either: a run's numbers, and the address that the last step put out first
+pub record TravelNumbers : Type 0 where
   pub first : ℕ
   pub ended : RunNumbers
 
-abbrev pub walkNumbers : ℕ → ℕ → Walked → WalkNumbers
-walkNumbers registers cycles w = record { first = w .first; ended = runNumbers registers cycles (w .ended) }
+abbrev pub travelNumbers : ℕ → ℕ → Travelled → TravelNumbers
+travelNumbers registers cycles w = record { first = w .first; ended = runNumbers registers cycles (w .ended) }
 
-unfoldable pub walkOnNumbers : ℕ → ℕ → ℕ → Micro WalkNumbers
-walkOnNumbers bound registers cycles = do
-  w ← walking bound 0 0 (machineFrom registers cycles)
-  done (walkNumbers registers cycles w)
+unfoldable pub travelOnNumbers : ℕ → ℕ → ℕ → ℕ → Micro TravelNumbers
+travelOnNumbers bound lines registers cycles = do
+  w ← travelling bound 0 0 (linesFrom lines) (machineFrom registers cycles)
+  done (travelNumbers registers cycles w)

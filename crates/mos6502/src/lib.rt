@@ -1,22 +1,26 @@
 // The core on numbers, for a host in C or Rust: see host/mos6502.h.
 ghost use mathlib.Core.Path.{_≡_};
+ghost use mathlib.Core.Bool.{true};
 ghost use lib.ListN.{length};
 ghost use Rattle.registers.specs.State.{registersOf};
-ghost use Rattle.registers.specs.StatusByte.{pushedByte, pulledStatus};
-ghost use Rattle.packing.specs.Packed.{packed, unpacked};
+ghost use Rattle.registers.specs.StatusByte.{bit, pushedByte, pulledStatus};
+ghost use Rattle.packing.specs.Packed.{packed, unpacked, unpackedNmi};
 ghost use Rattle.manual.specs.Micro.{Gives};
 ghost use Rattle.manual.specs.Stepping.{fullMemory};
-ghost use Rattle.mos6502.specs.Numbers.{machineFrom, registersAfter, cyclesAfter, stepOnNumbers, runOnNumbers, longRunOnNumbers, walkOnNumbers};
-use cpu::walk;
+ghost use Rattle.mos6502.specs.Numbers.{machineFrom, linesFrom, registersAfter, cyclesAfter, stepOnNumbers, runOnNumbers, longRunOnNumbers, travelOnNumbers};
+use cpu::travel;
 use manual::FULL_MEMORY;
 use manual::HIGHEST_BOUND;
+use manual::Lines;
 use manual::Machine;
 use packing::pack;
 use packing::unpack;
+use packing::unpack_nmi;
 use registers::Registers;
 use registers::Status;
+use registers::flag;
 
-// The number of some registers; bits 4 and 5 of the status do not matter.
+// The number of some registers; bits 4 and 5 of the status do not matter. The last level of NMI is high, as it is at first.
 #[no_mangle]
 pub extern "C" fn mos6502_registers(
     accumulator: u8,
@@ -26,9 +30,12 @@ pub extern "C" fn mos6502_registers(
     status: u8,
     counter: u16,
 ) -> u64
-    ensures { λ r. ⌜ r ≡ packed (registersOf accumulator x y stack counter (pulledStatus status)) ⌝ }
+    ensures { λ r. ⌜ r ≡ packed (registersOf accumulator x y stack counter (pulledStatus status)) true ⌝ }
 {
-    pack(Registers::new(accumulator, x, y, stack, counter, Status::pulled(status)))
+    pack(
+        Registers::new(accumulator, x, y, stack, counter, Status::pulled(status)),
+        true,
+    )
 }
 
 // A of a number.
@@ -79,11 +86,29 @@ pub extern "C" fn mos6502_counter(registers: u64) -> u16
     unpack(registers).counter
 }
 
+// The last level of NMI of a number: 1 where it was high, 0 where it was low.
+#[no_mangle]
+pub extern "C" fn mos6502_nmi(registers: u64) -> u8
+    ensures { λ r. ⌜ r ≡ bit (unpackedNmi registers) ⌝ }
+{
+    flag(unpack_nmi(registers))
+}
+
 // The machine of a number and a cycle count.
 fn machine_from(registers: u64, cycles: u64) -> Machine
     ensures { λ r. ⌜ r ≡ machineFrom registers cycles ⌝ }
 {
-    Machine::new(unpack(registers), cycles)
+    Machine::new(unpack(registers), cycles, unpack_nmi(registers))
+}
+
+// The levels of the lines: bit 0 is set where NMI is low, bit 1 where IRQ is, and the others do not matter.
+fn lines_from(lines: u8) -> Lines
+    ensures { λ r. ⌜ r ≡ linesFrom lines ⌝ }
+{
+    Lines {
+        irq: lines / 2 % 2 != 1,
+        nmi: lines % 2 != 1,
+    }
 }
 
 // The machine as the two numbers, where a step was made.
@@ -93,25 +118,26 @@ fn hand_back(made: bool, machine: Machine, registers: &mut u64, cycles: &mut u64
 {
     if made {
         let after = machine.registers;
-        *registers = pack(after);
+        *registers = pack(after, machine.nmi);
         *cycles = machine.cycles;
     }
 }
 
-// At most `bound` steps on numbers. Both functions below call this one, and it alone calls the loop: so the compiler makes
-// one function of the loop and of what stands around it, and no record goes through memory.
+// At most `bound` steps on numbers. The three functions below call this one, and it alone calls `travel`: so the compiler
+// makes one function of the loop and of what stands around it, and no record goes through memory.
 fn advance(
     registers: &mut u64,
     cycles: &mut u64,
     steps: &mut u64,
     first: &mut u16,
     bound: u64,
+    lines: u8,
     memory: &mut [u8],
 ) -> u8
     requires { ⌜ length (now memory) ≡ fullMemory ⌝ }
     ensures { λ r.
         ⌜ Gives
-        (walkOnNumbers bound (now (registers .entry)) (now (cycles .entry)))
+        (travelOnNumbers bound lines (now (registers .entry)) (now (cycles .entry)))
         (now (memory .entry))
         (record {
           first = now (first .exit);
@@ -119,26 +145,33 @@ fn advance(
         })
         (now (memory .exit)) ⌝ }
 {
-    let walked = walk(machine_from(*registers, *cycles), bound, memory);
-    *first = walked.first;
-    let ended = walked.ended;
+    let travelled = travel(
+        machine_from(*registers, *cycles),
+        bound,
+        lines_from(lines),
+        memory,
+    );
+    *first = travelled.first;
+    let ended = travelled.ended;
     let reason = ended.reason;
     *steps = ended.steps;
     hand_back(0 < ended.steps, ended.machine, registers, cycles);
     reason.number()
 }
 
-// A step. A refusal leaves both numbers and the memory as they were, and gives 0000 for the address put out first.
+// A step with the levels of `lines`: bit 0 is set where NMI is low, bit 1 where IRQ is. A refusal leaves both numbers and the
+// memory as they were; it and a line that is served give 0000 for the address put out first.
 #[no_mangle]
 pub extern "C" fn mos6502_step(
     registers: &mut u64,
     cycles: &mut u64,
+    lines: u8,
     first: &mut u16,
     memory: &mut [u8],
 ) -> u8
     ensures { λ r.
         ⌜ Gives
-        (stepOnNumbers (length (now (memory .entry))) (now (registers .entry)) (now (cycles .entry)))
+        (stepOnNumbers (length (now (memory .entry))) lines (now (registers .entry)) (now (cycles .entry)))
         (now (memory .entry))
         (record { answer = r; first = now (first .exit); registers = now (registers .exit); cycles = now (cycles .exit) })
         (now (memory .exit)) ⌝ }
@@ -148,7 +181,7 @@ pub extern "C" fn mos6502_step(
         return 1;
     }
     let mut steps: u64 = 0;
-    advance(registers, cycles, &mut steps, first, 1, memory)
+    advance(registers, cycles, &mut steps, first, 1, lines, memory)
 }
 
 // A run of at most `bound` steps. Where it makes none, both numbers stay as they were.
@@ -158,11 +191,12 @@ pub extern "C" fn mos6502_run(
     cycles: &mut u64,
     steps: &mut u64,
     bound: u64,
+    lines: u8,
     memory: &mut [u8],
 ) -> u8
     ensures { λ r.
         ⌜ Gives
-        (runOnNumbers (length (now (memory .entry))) bound (now (registers .entry)) (now (cycles .entry)))
+        (runOnNumbers (length (now (memory .entry))) bound lines (now (registers .entry)) (now (cycles .entry)))
         (now (memory .entry))
         (record { answer = r; steps = now (steps .exit); registers = now (registers .exit); cycles = now (cycles .exit) })
         (now (memory .exit)) ⌝ }
@@ -176,7 +210,7 @@ pub extern "C" fn mos6502_run(
         return 4;
     }
     let mut first: u16 = 0;
-    advance(registers, cycles, steps, &mut first, bound, memory)
+    advance(registers, cycles, steps, &mut first, bound, lines, memory)
 }
 
 // A run of any number of steps. Where it makes none, both numbers stay as they were.
@@ -186,11 +220,12 @@ pub extern "C" fn mos6502_long_run(
     cycles: &mut u64,
     steps: &mut u64,
     bound: u64,
+    lines: u8,
     memory: &mut [u8],
 ) -> u8
     ensures { λ r.
         ⌜ Gives
-        (longRunOnNumbers (length (now (memory .entry))) bound (now (registers .entry)) (now (cycles .entry)))
+        (longRunOnNumbers (length (now (memory .entry))) bound lines (now (registers .entry)) (now (cycles .entry)))
         (now (memory .entry))
         (record { answer = r; steps = now (steps .exit); registers = now (registers .exit); cycles = now (cycles .exit) })
         (now (memory .exit)) ⌝ }
@@ -200,5 +235,5 @@ pub extern "C" fn mos6502_long_run(
         return 1;
     }
     let mut first: u16 = 0;
-    advance(registers, cycles, steps, &mut first, bound, memory)
+    advance(registers, cycles, steps, &mut first, bound, lines, memory)
 }

@@ -2,7 +2,7 @@
 ghost use mathlib.Core.Path.{_≡_};
 ghost use Prim.Native.Nat.{_≤_};
 ghost use Rattle.registers.specs.State.{statusOf, registersOf, setA, setX, setY, setS, setPC, setStatus, setNZ, setV, setD, setI, setC, up, down};
-ghost use Rattle.registers.specs.StatusByte.{bit, pushedByte, pulledStatus};
+ghost use Rattle.registers.specs.StatusByte.{bit, statusByte, pushedByte, servedByte, pulledStatus};
 
 // The processor status: the six flags N V D I Z C.
 pub struct Status {
@@ -112,17 +112,32 @@ impl Status {
         after
     }
 
-    // The byte that PHP and BRK push.
-    pub fn pushed(self) -> u8
-        ensures { λ r. ⌜ r ≡ pushedByte self ⌝ }
+    // The byte on the stack, with the break bit as it is given.
+    fn byte(self, brk: bool) -> u8
+        ensures { λ r. ⌜ r ≡ statusByte brk self ⌝ }
     {
         flag(self.negative) * 128
             + flag(self.overflow) * 64
-            + 48
+            + 32
+            + flag(brk) * 16
             + flag(self.decimal) * 8
             + flag(self.disable) * 4
             + flag(self.zero) * 2
             + flag(self.carry)
+    }
+
+    // The byte that PHP and BRK push.
+    pub fn pushed(self) -> u8
+        ensures { λ r. ⌜ r ≡ pushedByte self ⌝ }
+    {
+        self.byte(true)
+    }
+
+    // The byte that a served line pushes.
+    pub fn served(self) -> u8
+        ensures { λ r. ⌜ r ≡ servedByte self ⌝ }
+    {
+        self.byte(false)
     }
 
     // The status that PLP and RTI take from a byte: bits 4 and 5 are dropped.

@@ -1,6 +1,6 @@
 -- What is compared of a step, and in which order.
 use Prim.Native.Nat.{ℕ}
-use mathlib.Core.Bool.{Bool, cond}
+use mathlib.Core.Bool.{Bool, true, cond}
 use mathlib.Core.List.{List}
 use lib.Dec.{eqb}
 use Rattle.registers.specs.State.{registersOf}
@@ -12,9 +12,9 @@ use Rattle.vectors.specs.declared.State.{State}
 use Rattle.replay.specs.declared.compare.Verdict.{Verdict}
 use Rattle.replay.specs.SameBytes.{sameBytes}
 
--- the machine of a state that was read
+-- the machine of a state that was read; NMI was high
 abbrev pub machineAt : State → Machine
-machineAt s = machineOf (registersOf (s .accumulator) (s .x) (s .y) (s .stack) (s .counter) (pulledStatus (s .status))) (s .cycles)
+machineAt s = machineOf (registersOf (s .accumulator) (s .x) (s .y) (s .stack) (s .counter) (pulledStatus (s .status))) (s .cycles) true
 
 -- the first part that differs, the memory last
 unfoldable pub compared : Machine → State → Bool → Verdict

@@ -6,6 +6,7 @@ use lib.Dec.{eqb, ltb}
 use lib.ListN.{length, getD, replicate}
 use Rattle.registers.specs.StatusByte.{pushedByte, pulledStatus}
 use Rattle.manual.specs.Micro.{exec}
+use Rattle.manual.specs.Interrupts.{idle}
 use Rattle.manual.specs.Stepping.{step}
 use Rattle.vectors.specs.declared.State.{State}
 use Rattle.reading.specs.Numbers.{nowhere, byteAt, markAt}
@@ -53,7 +54,7 @@ unfoldable pub verdictOn : Lined → Verdict
 verdictOn l =
     cond (eqb (l .line .next) nowhere) Verdict.Malformed
     (cond (wellFormed (l .line .opcode) (l .line .before) (l .memory))
-    (judged (exec (step (length (l .memory)) (machineAt (l .line .before))) (l .memory)) (l .line .after) (l .expected))
+    (judged (exec (step (length (l .memory)) idle (machineAt (l .line .before))) (l .memory)) (l .line .after) (l .expected))
     Verdict.Malformed)
 
 unfoldable pub lineVerdict : List ℕ → ℕ → Verdict

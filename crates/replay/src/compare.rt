@@ -2,9 +2,11 @@
 ghost use mathlib.Core.Path.{_≡_};
 ghost use lib.ListN.{length};
 ghost use Rattle.manual.specs.Micro.{exec};
+ghost use Rattle.manual.specs.Interrupts.{idle};
 ghost use Rattle.manual.specs.Stepping.{step};
 ghost use Rattle.replay.specs.Comparison.{machineAt, compared, judged};
 use cpu::single_step;
+use manual::Lines;
 use manual::Machine;
 use registers::Registers;
 use registers::Status;
@@ -38,7 +40,7 @@ fn machine_at(state: State) -> Machine
         state.counter,
         status,
     );
-    Machine::new(registers, state.cycles)
+    Machine::new(registers, state.cycles, true)
 }
 
 // The status is compared as the byte that PHP pushes.
@@ -73,16 +75,16 @@ fn compare(machine: Machine, state: State, same: bool) -> Verdict
     Verdict::Memory
 }
 
-// Makes the step, and compares the machine and the whole memory after it.
+// Makes the step with idle lines, and compares the machine and the whole memory after it.
 pub(crate) fn judge(before: State, after: State, memory: &mut [u8], expected: &[u8]) -> Verdict
     ensures { λ r.
         ⌜ r
         ≡ judged
-        (exec (step (length (now (memory .entry))) (machineAt before)) (now (memory .entry)))
+        (exec (step (length (now (memory .entry))) idle (machineAt before)) (now (memory .entry)))
         after
         (now (expected .entry)) ⌝ }
 {
-    let stepped = single_step(machine_at(before), memory);
+    let stepped = single_step(machine_at(before), Lines::idle(), memory);
     let reason = stepped.reason;
     if reason.is_made() {
         return compare(stepped.machine, after, check::same(memory, expected));

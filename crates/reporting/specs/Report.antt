@@ -12,14 +12,15 @@ use Rattle.manual.specs.Micro.{Micro, done, _>>=_, exec}
 use Rattle.manual.specs.Words.{joined}
 use Rattle.manual.specs.Addressing.{word}
 use Rattle.manual.specs.Outcomes.{machineOf, number, ended}
+use Rattle.manual.specs.Interrupts.{idle}
 use Rattle.manual.specs.Stepping.{fullMemory, run, longRun}
 use Rattle.laws.specs.Characters.{characters}
 use Rattle.text.specs.Numerals.{decimal, spaced}
 use Rattle.states.specs.Fields.{machineFields}
 
--- A, X, Y 00, S FF, only I set, no cycles
+-- A, X, Y 00, S FF, only I set, no cycles; NMI was high
 unfoldable pub start : ℕ → Machine
-start counter = machineOf (registersOf 0x00 0x00 0x00 0xFF counter (statusOf false false false true false false)) 0
+start counter = machineOf (registersOf 0x00 0x00 0x00 0xFF counter (statusOf false false false true false false)) 0 true
 
 -- a run from the address at FFFC; an image of another length is refused with 1 and not looked at
 unfoldable pub fromStart : (Machine → Micro Ended) → ℕ → Micro Ended
@@ -29,12 +30,12 @@ fromStart go size =
       go (start first))
     (done (ended MemoryNotFull 0 (start 0)))
 
--- at most 1,000 steps, and at most so many
+-- at most 1,000 steps, and at most so many, with idle lines
 abbrev pub imageRun : ℕ → Micro Ended
-imageRun size = fromStart (run size 1000) size
+imageRun size = fromStart (run size 1000 idle) size
 
 abbrev pub longImageRun : ℕ → ℕ → Micro Ended
-longImageRun steps size = fromStart (longRun size steps) size
+longImageRun steps size = fromStart (longRun size steps idle) size
 
 -- the machine that an image starts with
 unfoldable pub imageStart : List ℕ → Machine

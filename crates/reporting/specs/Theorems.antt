@@ -9,7 +9,7 @@ use lib.Dec.{eqb}
 use lib.ListN.{length, getD}
 use borrow.Author.Tests.{eqb-true, eqb-false}
 use Rattle.registers.specs.State.{setA, setPC, setStatus, setNZ, flags}
-use Rattle.registers.specs.StatusByte.{pushedByte}
+use Rattle.registers.specs.StatusByte.{statusByte}
 use Rattle.instruction.specs.Opcodes.{rows, decoded}
 use Rattle.manual.specs.declared.Machine.{Machine}
 use Rattle.manual.specs.declared.Ended.{Ended}
@@ -18,8 +18,9 @@ use Rattle.manual.specs.Micro.{exec, Gives}
 use Rattle.manual.specs.Words.{joined}
 use Rattle.manual.specs.Flags.{shown}
 use Rattle.manual.specs.Addressing.{target}
+use Rattle.manual.specs.Interrupts.{idle}
 use Rattle.manual.specs.Instructions.{taken, perform}
-use Rattle.manual.specs.Stepping.{act, stepFull, runFull, run, longRun, fullMemory}
+use Rattle.manual.specs.Stepping.{act, attend, stepFull, runFull, run, longRun, fullMemory}
 use Rattle.manual.specs.Theorems.Examples.{memory}
 use Rattle.manual.specs.Theorems.RegistersInRange.{InRange}
 use Rattle.manual.specs.Theorems.Within.{Bytes}
@@ -38,13 +39,13 @@ use Rattle.reporting.specs.Laws.{image-refused, image-run}
 
 -- The rules' example: LDA #05, and then a byte that is no opcode.
 pub example-line : reportLine (memory ((0xFFFD, 0x02 ∷ []) ∷ (0x0200, 0xA9 ∷ 0x05 ∷ 0x02 ∷ []) ∷ [])) ≡ characters "3 1 2 0202 05 00 00 FF 34\n"
-unfolding start fromStart machineFields allFields line digit digits decimal pushedByte rows decoded setA setPC setStatus setNZ flags shown target taken perform act stepFull runFull run
+unfolding start fromStart machineFields allFields line digit digits decimal statusByte rows decoded setA setPC setStatus setNZ flags shown target taken perform act attend stepFull runFull run
 example-line = refl
 
 -- An image of another length gets the line `1`.
 pub other-length : (image : List ℕ) → (length image ≡ fullMemory → ⊥) → reportLine image ≡ characters "1\n"
 unfolding line
-other-length image h = rw (image-refused (run (length image) 1000) (length image) image h)
+other-length image h = rw (image-refused (run (length image) 1000 idle) (length image) image h)
 
 module _ (image : List ℕ) (full : length image ≡ fullMemory) (bytes : Bytes image) where
   abbrev first : Machine
@@ -65,17 +66,17 @@ module _ (image : List ℕ) (full : length image ≡ fullMemory) (bytes : Bytes 
   none-yet = refl
 
   -- k steps take at most 7 k cycles
-  soon : (k : ℕ) (s : Machine) (m : List ℕ) → k < 1000 → Leads k first image s m → s .cycles ≤ 7 * k
+  soon : (k : ℕ) (s : Machine) (m : List ℕ) → k < 1000 → Leads k idle first image s m → s .cycles ≤ 7 * k
   soon k s m l led =
-      let kept = run-ranges (length image) k first image first-in-range bytes .0 .1 in
-      let kept′ = rw (run-whole (length image) k first full (omega arith), run-all k first image s m led) at kept in
+      let kept = run-ranges (length image) k idle first image first-in-range bytes .0 .1 in
+      let kept′ = rw (run-whole (length image) k idle first full (omega arith), run-all k idle first image s m led) at kept in
       omega (arith, kept′, none-yet)
 
   -- 0 with all 1,000 steps, or 3 with fewer and a byte at the counter that is no opcode
   abbrev pub Reason-and-count : Ended → List ℕ → Type 0
-  Reason-and-count q m = ((q .reason ≡ Made) × (q .steps ≡ 1000)) ⊎ ((q .reason ≡ NotAnOpcode) × (q .steps < 1000) × NoOpcode (q .machine) m)
+  Reason-and-count q m = ((q .reason ≡ Made) × (q .steps ≡ 1000)) ⊎ ((q .reason ≡ NotAnOpcode) × (q .steps < 1000) × NoOpcode idle (q .machine) m)
 
-  reason : {q : Ended} {m : List ℕ} → Ends 1000 first image q m → Reason-and-count q m
+  reason : {q : Ended} {m : List ℕ} → Ends 1000 idle first image q m → Reason-and-count q m
   reason (all-made led) = inl (refl, refl)
   reason (no-cycle-room {k} {s′} {m′} l led late) = absurd (omega (arith, soon k s′ m′ l led, late))
   reason (not-an-opcode l led none) = inr (refl, l, none)
@@ -83,7 +84,7 @@ module _ (image : List ℕ) (full : length image ≡ fullMemory) (bytes : Bytes 
   -- A full image ends so, and not otherwise: for 2 it starts too low, for 4 the bound is allowed.
   pub reasons : {q : Ended} {m : List ℕ} → Gives (imageRun (length image)) image q m → Reason-and-count q m
   reasons g =
-      reason (run-ends 1000 first image (rw (image-run (run (length image) 1000) (length image) image full, run-whole (length image) 1000 first full (omega arith)) at g))
+      reason (run-ends 1000 idle first image (rw (image-run (run (length image) 1000 idle) (length image) image full, run-whole (length image) 1000 idle first full (omega arith)) at g))
 
 -- A run of 1,000 steps by `go` is the report's.
 pub same-run : (image : List ℕ) → exec (longImageRun 1000 (length image)) image ≡ exec (imageRun (length image)) image
@@ -92,11 +93,11 @@ same-run image = by-length (eqb (length image) fullMemory) refl
     by-length : (t : Bool) → eqb (length image) fullMemory ≡ t → exec (longImageRun 1000 (length image)) image ≡ exec (imageRun (length image)) image
     by-length true e =
         let full = eqb-true (length image) fullMemory e in
-        image-run (longRun (length image) 1000) (length image) image full
-        ∙ rw (long-whole (length image) 1000 _ full, ← run-whole (length image) 1000 _ full (omega arith)) (sym (image-run (run (length image) 1000) (length image) image full))
+        image-run (longRun (length image) 1000 idle) (length image) image full
+        ∙ rw (long-whole (length image) 1000 idle _ full, ← run-whole (length image) 1000 idle _ full (omega arith)) (sym (image-run (run (length image) 1000 idle) (length image) image full))
     by-length false e =
         let other = eqb-false (length image) fullMemory e in
-        image-refused (longRun (length image) 1000) (length image) image other ∙ sym (image-refused (run (length image) 1000) (length image) image other)
+        image-refused (longRun (length image) 1000 idle) (length image) image other ∙ sym (image-refused (run (length image) 1000 idle) (length image) image other)
 
 -- The promise of `report` admits one result only: one answer, one length, one image and one text.
 pub one-report : (image text : List ℕ) (r₁ r₂ : Reported) {i₁ i₂ t₁ t₂ : List ℕ}

@@ -6,6 +6,7 @@ ghost use Rattle.reporting.specs.Report.{start as Report·start, imageRu
 use cpu::run;
 use manual::Ended;
 use manual::FULL_MEMORY;
+use manual::Lines;
 use manual::Machine;
 use memory::Address;
 use memory::address_from_bytes;
@@ -19,7 +20,7 @@ fn start(counter: u16) -> Machine
 {
     let status = Status::new(false, false, false, true, false, false);
     let registers = Registers::new(0x00, 0x00, 0x00, 0xFF, counter, status);
-    Machine::new(registers, 0)
+    Machine::new(registers, 0, true)
 }
 
 // The machine that an image starts with. One of another length is not looked at.
@@ -33,10 +34,10 @@ pub fn start_image(image: &[u8]) -> Machine
     start(first.0)
 }
 
-// Runs an image for at most 1,000 steps.
+// Runs an image for at most 1,000 steps, with idle lines.
 pub(crate) fn run_image(image: &mut [u8]) -> Ended
     ensures { λ r. ⌜ Gives (imageRun (length (now (image .entry)))) (now (image .entry)) r (now (image .exit)) ⌝ }
 {
     let machine = start_image(image);
-    run(machine, 1000, image)
+    run(machine, 1000, Lines::idle(), image)
 }

@@ -1,9 +1,12 @@
-// The instructions that use the stack: subroutines, interrupts, pushes and pulls, after execute_instruction of cpu.rs.
+// The instructions that use the stack: subroutines, interrupts, pushes and pulls, after execute_instruction of cpu.rs; and the
+// service of a line.
 mod bytes; // bytes.rt: a byte and an address on the stack
 
 ghost use mathlib.Core.Path.{_≡_};
+ghost use Prim.Native.Nat.{_+_, _<_};
 ghost use lib.ListN.{length};
 ghost use Rattle.manual.specs.Micro.{Gives};
+ghost use Rattle.manual.specs.Interrupts.{enter, served};
 ghost use Rattle.manual.specs.Instructions.{perform};
 ghost use Rattle.manual.specs.Stepping.{fullMemory};
 use addressing::advanced;
@@ -16,6 +19,7 @@ use bytes::push_on_stack;
 use instruction::AddressingMode;
 use instruction::Instruction;
 use manual::Effect;
+use manual::IRQ_VECTOR;
 use manual::leaves;
 use manual::leaves_at;
 use memory::Address;
@@ -61,16 +65,44 @@ pub fn return_from_interrupt(mode: AddressingMode, registers: Registers, memory:
     leaves(after, 0)
 }
 
-// BRK: the address past its second byte and the status are pushed, I is set, and the counter goes through FFFE.
+// The way into an interrupt: a return address and a status byte are pushed, I is set, and the counter goes through a vector.
+fn enter(back: Address, byte: u8, vector: u16, registers: Registers, memory: &mut [u8]) -> Registers
+    requires { ⌜ (length (now memory) ≡ fullMemory) × (vector + 1 < 65536) ⌝ }
+    ensures { λ r. ⌜ Gives (enter (back .0) byte vector registers) (now (memory .entry)) r (now (memory .exit)) ⌝ }
+{
+    let addressed = push_address(registers, memory, back);
+    let pushed = push_on_stack(addressed, memory, byte);
+    let goal = address_from_bytes(read_address(memory, Address(vector), Address(vector + 1)));
+    let status = pushed.status.with_disable(true);
+    pushed.with_status(status).with_counter(goal.0)
+}
+
+// A line is served: the way back is to the instruction that was not yet begun, and bit 4 of the status byte is clear.
+pub fn serve(vector: u16, registers: Registers, memory: &mut [u8]) -> Registers
+    requires { ⌜ (length (now memory) ≡ fullMemory) × (vector + 1 < 65536) ⌝ }
+    ensures { λ r. ⌜ Gives (served vector registers) (now (memory .entry)) r (now (memory .exit)) ⌝ }
+{
+    enter(
+        Address(registers.counter),
+        registers.status.served(),
+        vector,
+        registers,
+        memory,
+    )
+}
+
+// BRK: the way back is past its second byte.
 pub fn force_break(mode: AddressingMode, registers: Registers, memory: &mut [u8]) -> Effect
     requires { ⌜ length (now memory) ≡ fullMemory ⌝ }
     ensures { λ r. ⌜ Gives (perform Instruction.BRK mode registers) (now (memory .entry)) r (now (memory .exit)) ⌝ }
 {
-    let addressed = push_address(registers, memory, operand_at(registers, 2));
-    let pushed = push_on_stack(addressed, memory, registers.status.pushed());
-    let goal = address_from_bytes(read_address(memory, Address(0xFFFE), Address(0xFFFF)));
-    let status = pushed.status.with_disable(true);
-    let after = pushed.with_status(status).with_counter(goal.0);
+    let after = enter(
+        operand_at(registers, 2),
+        registers.status.pushed(),
+        IRQ_VECTOR,
+        registers,
+        memory,
+    );
     leaves(after, 0)
 }
 

@@ -12,10 +12,11 @@ use Rattle.manual.specs.declared.Stepped.{Stepped}
 use Rattle.manual.specs.declared.Reason.the-variants.{Made}
 use Rattle.manual.specs.Micro.{exec, Gives}
 use Rattle.manual.specs.Outcomes.{isMade, ended}
+use Rattle.manual.specs.Interrupts.{idle}
 use Rattle.manual.specs.Stepping.{fullMemory, stepFull, runFull}
 use Rattle.manual.specs.Theorems.Programs.{exec-then}
-use Rattle.manual.specs.Theorems.StepLaws.{step-late, step-undefined, step-defined}
-use Rattle.manual.specs.Theorems.Answers.{Way, late, undefined, ready, way}
+use Rattle.manual.specs.Theorems.StepLaws.{step-late, step-serves, step-undefined, step-defined}
+use Rattle.manual.specs.Theorems.Answers.{Way, late, serves, undefined, ready, way}
 use Rattle.timetable.specs.Timetable.{stepLine, shown, fullTimetable, timetable}
 use Rattle.text.specs.Written.{Wrote}
 use Rattle.text.specs.Laws.{decimal-length}
@@ -35,13 +36,14 @@ read-back {l} {t} {l′} {n} w h =
 -- ---- a step
 
 -- the cycle count never goes back
-by-way : (s : Machine) (m : List ℕ) (q : Stepped) (m′ : List ℕ) → Gives (stepFull s) m q m′ → Way s m → s .cycles ≤ q .machine .cycles
-by-way s m q m′ g (late h) = omega (arith, ap (λ (w : Stepped × List ℕ). w .0 .machine .cycles) (sym g ∙ step-late s m h))
-by-way s m q m′ g (undefined h) = omega (arith, ap (λ (w : Stepped × List ℕ). w .0 .machine .cycles) (sym g ∙ step-undefined s m (h .0) (h .1)))
-by-way s m q m′ g (ready h) = omega (arith, ap (λ (w : Stepped × List ℕ). w .0 .machine .cycles) (sym g ∙ step-defined s m (h .1 .0) (h .0) (h .1 .1) refl))
+by-way : (s : Machine) (m : List ℕ) (q : Stepped) (m′ : List ℕ) → Gives (stepFull idle s) m q m′ → Way idle s m → s .cycles ≤ q .machine .cycles
+by-way s m q m′ g (late h) = omega (arith, ap (λ (w : Stepped × List ℕ). w .0 .machine .cycles) (sym g ∙ step-late idle s m h))
+by-way s m q m′ g (serves h) = omega (arith, ap (λ (w : Stepped × List ℕ). w .0 .machine .cycles) (sym g ∙ step-serves idle s m (h .1 .0) (h .0) (h .1 .1) refl))
+by-way s m q m′ g (undefined h) = omega (arith, ap (λ (w : Stepped × List ℕ). w .0 .machine .cycles) (sym g ∙ step-undefined idle s m (h .0) (h .1) (h .2)))
+by-way s m q m′ g (ready h) = omega (arith, ap (λ (w : Stepped × List ℕ). w .0 .machine .cycles) (sym g ∙ step-defined idle s m (h .2 .0) (h .0) (h .1) (h .2 .1) refl))
 
-pub not-back : (s : Machine) (m : List ℕ) {q : Stepped} {m′ : List ℕ} → Gives (stepFull s) m q m′ → s .cycles ≤ q .machine .cycles
-not-back s m {q} {m′} g = by-way s m q m′ g (way s m)
+pub not-back : (s : Machine) (m : List ℕ) {q : Stepped} {m′ : List ℕ} → Gives (stepFull idle s) m q m′ → s .cycles ≤ q .machine .cycles
+not-back s m {q} {m′} g = by-way s m q m′ g (way idle s m)
 
 -- the line of a step, by whether it was made
 pub shown-made : (m : List ℕ) (s : Machine) (q : Stepped) → isMade (q .reason) ≡ true
@@ -57,17 +59,17 @@ line-length t cycles first h = simp length-append (omega (arith, decimal-length 
 
 -- ---- a run, before step k of a bound
 
-module _ (s : Machine) (m : List ℕ) (q : Stepped) (m′ : List ℕ) (g : Gives (stepFull s) m q m′) (bound k : ℕ) (l : k < bound) where
+module _ (s : Machine) (m : List ℕ) (q : Stepped) (m′ : List ℕ) (g : Gives (stepFull idle s) m q m′) (bound k : ℕ) (l : k < bound) where
   one-more : bound - k ≡ suc (bound - (k + 1))
   one-more = omega arith
 
-  pub run-next : isMade (q .reason) ≡ true → exec (runFull (bound - k) k s) m ≡ exec (runFull (bound - (k + 1)) (k + 1) (q .machine)) m′
+  pub run-next : isMade (q .reason) ≡ true → exec (runFull (bound - k) k idle s) m ≡ exec (runFull (bound - (k + 1)) (k + 1) idle (q .machine)) m′
   unfolding runFull
-  run-next h = rw one-more (exec-then (stepFull s) _ m g ∙ rw h)
+  run-next h = rw one-more (exec-then (stepFull idle s) _ m g ∙ rw h)
 
-  pub run-refused : isMade (q .reason) ≡ false → Gives (runFull (bound - k) k s) m (ended (q .reason) k (q .machine)) m′
+  pub run-refused : isMade (q .reason) ≡ false → Gives (runFull (bound - k) k idle s) m (ended (q .reason) k (q .machine)) m′
   unfolding runFull
-  run-refused h = rw one-more (exec-then (stepFull s) _ m g ∙ rw h)
+  run-refused h = rw one-more (exec-then (stepFull idle s) _ m g ∙ rw h)
 
   pub next-line : isMade (q .reason) ≡ true
       → fullTimetable (bound - k) s m ≡ shown m s q ++ fullTimetable (bound - (k + 1)) (q .machine) m′
@@ -84,7 +86,7 @@ no-steps s m bound k h =
     let none : bound - k ≡ 0 = omega arith in
     rw none
 
-pub no-more-steps : (s : Machine) (m : List ℕ) (bound k : ℕ) → bound ≤ k → Gives (runFull (bound - k) k s) m (ended Made k s) m
+pub no-more-steps : (s : Machine) (m : List ℕ) (bound k : ℕ) → bound ≤ k → Gives (runFull (bound - k) k idle s) m (ended Made k s) m
 unfolding runFull
 no-more-steps s m bound k h =
     let none : bound - k ≡ 0 = omega arith in

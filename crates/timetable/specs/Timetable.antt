@@ -1,4 +1,4 @@
--- The timetable of a run: a line for each step that is made, for the lesson on timing.
+-- The timetable of a run with idle lines: a line for each step that is made, for the lesson on timing.
 use Prim.Native.Nat.{ℕ, zero, suc, _-_}
 use mathlib.Core.Bool.{cond}
 use mathlib.Core.List.{List, [], _++_}
@@ -8,6 +8,7 @@ use Rattle.manual.specs.declared.Machine.{Machine}
 use Rattle.manual.specs.declared.Stepped.{Stepped}
 use Rattle.manual.specs.Micro.{exec}
 use Rattle.manual.specs.Outcomes.{isMade}
+use Rattle.manual.specs.Interrupts.{idle}
 use Rattle.manual.specs.Stepping.{fullMemory, stepFull}
 use Rattle.laws.specs.Characters.{characters}
 use Rattle.text.specs.Numerals.{hex4, decimal, spaced}
@@ -26,7 +27,7 @@ shown m s q =
 unfoldable pub fullTimetable : ℕ → Machine → List ℕ → List ℕ
 fullTimetable zero s m = []
 fullTimetable (suc n) s m =
-    let w = exec (stepFull s) m in
+    let w = exec (stepFull idle s) m in
     shown m s (w .0) ++ cond (isMade (w .0 .reason)) (fullTimetable n (w .0 .machine) (w .1)) []
 
 -- on a memory of another length no step is made

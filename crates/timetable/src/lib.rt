@@ -4,6 +4,7 @@ ghost use Prim.Native.Nat.{_+_, _*_, _≤_};
 ghost use mathlib.Core.Path.{_≡_};
 ghost use lib.ListN.{length};
 ghost use Rattle.manual.specs.Micro.{Gives};
+ghost use Rattle.manual.specs.Interrupts.{idle};
 ghost use Rattle.manual.specs.Stepping.{fullMemory, stepFull, longRun};
 ghost use Rattle.text.specs.Written.{Wrote};
 ghost use Rattle.timetable.specs.Timetable.{stepLine, shown, timetable};
@@ -11,6 +12,7 @@ use cpu::single_step;
 use listing::put_instruction;
 use manual::Ended;
 use manual::FULL_MEMORY;
+use manual::Lines;
 use manual::Machine;
 use manual::Reason;
 use manual::Stepped;
@@ -46,13 +48,13 @@ fn put_line(out: &mut [u8], at: usize, instruction: &[u8], cycles: u64, first: u
 // most that it can have.
 fn put_step(out: &mut [u8], at: usize, machine: Machine, memory: &mut [u8]) -> TimedStep
     requires { ⌜ length (now memory) ≡ fullMemory ⌝ }
-    ensures { λ r. ⌜ Gives (stepFull machine) (now (memory .entry)) (r .stepped) (now (memory .exit)) ⌝ }
+    ensures { λ r. ⌜ Gives (stepFull idle machine) (now (memory .entry)) (r .stepped) (now (memory .exit)) ⌝ }
     ensures { λ r. ⌜ Wrote (now (out .entry)) at (shown (now (memory .entry)) machine (r .stepped)) (now (out .exit)) (r .next) ⌝ }
     ensures { λ r. ⌜ r .next ≤ at + 52 ⌝ }
 {
     let mut instruction = [0u8; 25];
     let size = put_instruction(&mut instruction, 0, memory, machine.registers.counter);
-    let stepped = single_step(machine, memory);
+    let stepped = single_step(machine, Lines::idle(), memory);
     let reason = stepped.reason;
     if reason.is_made() {
         let cycles = stepped.machine.cycles - machine.cycles;
@@ -67,9 +69,9 @@ fn put_step(out: &mut [u8], at: usize, machine: Machine, memory: &mut [u8]) -> T
     }
 }
 
-// At most `bound` steps from a machine, and their lines. What does not fit is dropped; a line has at most 52 characters.
+// At most `bound` steps from a machine with idle lines, and what is printed of each. What does not fit is dropped; a line has at most 52 characters.
 pub fn put_steps(out: &mut [u8], machine: Machine, bound: u64, memory: &mut [u8]) -> Timed
-    ensures { λ r. ⌜ Gives (longRun (length (now (memory .entry))) bound machine) (now (memory .entry)) (r .ended) (now (memory .exit)) ⌝ }
+    ensures { λ r. ⌜ Gives (longRun (length (now (memory .entry))) bound idle machine) (now (memory .entry)) (r .ended) (now (memory .exit)) ⌝ }
     ensures { λ r. ⌜ Wrote (now (out .entry)) 0 (timetable bound machine (now (memory .entry))) (now (out .exit)) (r .size) ⌝ }
     ensures { λ r. ⌜ r .size ≤ 52 * bound ⌝ }
 {

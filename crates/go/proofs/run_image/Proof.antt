@@ -9,7 +9,7 @@ use Rattle.go.proofs.run_image.Tie as tie
 returns : tie.Need-returns
 returns c =
     let c₂ = c .before .before in
-    started _ _ (λ s other. long-short _ _ s _ other) ∙ rw (c₂ .before .before .start-image .ensures) at (c₂ .run-on .ensures)
+    started _ _ (λ s other. long-short _ _ _ s _ other) ∙ rw (c₂ .before .before .start-image .ensures) at (c₂ .run-on .ensures)
 
 pub run-image-spec : {M : Type 1} → statement M
 run-image-spec = tie.close (tie.spec (search needs) (search needs) (search needs) returns)

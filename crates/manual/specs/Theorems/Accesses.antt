@@ -1,5 +1,5 @@
 -- What a step reads and stores to, in one list and in order: the rules' reads (ReadList), then the stores. Only two instructions read
--- after they have pushed: BRK its vector, and JSR the high byte of its operand. A store for each written byte: a store's target, a modified byte's, and what is pushed.
+-- after they have pushed: BRK its vector, as a served line does, and JSR the high byte of its operand. A store for each written byte: a store's target, a modified byte's, and what is pushed.
 use Prim.Native.Nat.{ℕ, _+_}
 use mathlib.Core.Path.{_≡_, refl, ap, ap₂, _∙_}
 use mathlib.Core.Bool.{Bool, true, false, not, cond}
@@ -20,15 +20,19 @@ use Rattle.instruction.specs.declared.Decoded.the-variants.{Defined, Undefined}
 use Rattle.instruction.specs.Modes.{operandBytes}
 use Rattle.instruction.specs.Opcodes.{rows, decoded}
 use Rattle.instruction.specs.Rule.{every-entry}
+use Rattle.manual.specs.declared.Lines.{Lines}
 use Rattle.manual.specs.declared.Machine.{Machine}
+use Rattle.manual.specs.declared.Due.{Due}
+use Rattle.manual.specs.declared.Due.the-variants.{Through, Quiet}
 use Rattle.manual.specs.declared.Target.{Target}
 use Rattle.manual.specs.Micro.{Micro, read, exec, Access, readAt, storeAt, accesses, readsOf, storesOf, _>>=_}
 use Rattle.manual.specs.Words.{low, joined}
 use Rattle.manual.specs.Addressing.{target}
 use Rattle.manual.specs.Stack.{push, pull, pushAddress, pullAddress}
+use Rattle.manual.specs.Interrupts.{enter, served, due}
 use Rattle.manual.specs.Instructions.{modify, perform}
-use Rattle.manual.specs.Stepping.{fullMemory, highestCount, act, stepFull, step}
-use Rattle.manual.specs.ReadList.{is, operands, pointers, reached, listed}
+use Rattle.manual.specs.Stepping.{fullMemory, highestCount, act, attend, stepFull, step}
+use Rattle.manual.specs.ReadList.{is, operands, pointers, reached, listed, listedDue}
 use Rattle.manual.specs.Theorems.Programs.{accesses-bind, reads-append, stores-append, alike}
 
 -- ---- the list
@@ -36,6 +40,10 @@ use Rattle.manual.specs.Theorems.Programs.{accesses-bind, reads-append, 
 -- the address that the mode leads to
 abbrev pub aim : AddressingMode → Registers → List ℕ → ℕ
 aim mode r m = exec (target mode r) m .0 .address
+
+-- the places of three pushes
+abbrev pub threePushed : Registers → List ℕ
+threePushed r = joined 1 (r .stack .0) ∷ joined 1 (low (r .stack .0 + 255)) ∷ joined 1 (low (r .stack .0 + 254)) ∷ []
 
 abbrev pub storedTo : Instruction → AddressingMode → Registers → List ℕ → List ℕ
 storedTo (Read k) mode r m = []
@@ -51,7 +59,7 @@ storedTo PLA mode r m = []
 storedTo PLP mode r m = []
 storedTo PHA mode r m = joined 1 (r .stack .0) ∷ []
 storedTo PHP mode r m = joined 1 (r .stack .0) ∷ []
-storedTo BRK mode r m = joined 1 (r .stack .0) ∷ joined 1 (low (r .stack .0 + 255)) ∷ joined 1 (low (r .stack .0 + 254)) ∷ []
+storedTo BRK mode r m = threePushed r
 
 -- which of the two come first
 pub data Order : Type 0 where
@@ -87,13 +95,15 @@ abbrev pub accessedByEntry : Decoded → Registers → List ℕ → List Access
 accessedByEntry (Defined e) r m = accessed (e .instruction) (e .mode) r m
 accessedByEntry Undefined r m = []
 
+-- a line that is served pushes, and then reads its vector; otherwise the opcode is read first
+abbrev pub accessedByDue : Due → Registers → List ℕ → List Access
+accessedByDue (Through vector) r m = inOrder stores-first (listedDue (Through vector) r m) (threePushed r)
+accessedByDue Quiet r m = readAt (r .counter) ∷ accessedByEntry (decoded (getD m (r .counter) 0)) r m
+
 -- a step refused with 1 or 2 looks at nothing, one refused with 3 at the opcode
-abbrev pub accessedByStep : ℕ → Machine → List ℕ → List Access
-accessedByStep size s m =
-    cond (eqb size fullMemory)
-    (cond (ltb highestCount (s .cycles)) []
-    (readAt (s .registers .counter) ∷ accessedByEntry (decoded (getD m (s .registers .counter) 0)) (s .registers) m))
-    []
+abbrev pub accessedByStep : ℕ → Lines → Machine → List ℕ → List Access
+accessedByStep size lines s m =
+    cond (eqb size fullMemory) (cond (ltb highestCount (s .cycles)) [] (accessedByDue (due lines s) (s .registers) m)) []
 
 -- ---- the definition does exactly this
 
@@ -173,7 +183,7 @@ modify-accesses false p q l k m e f = f
 
 perform-accesses : (i : Instruction) (mode : AddressingMode) (r : Registers) (m : List ℕ) → T (suits i mode)
     → accesses (perform i mode r) m ≡ accessed i mode r m
-unfolding accesses perform modify push pull pushAddress pullAddress setS
+unfolding accesses perform modify push pull pushAddress pullAddress enter setS
 perform-accesses (Read k) mode r m h = fetch-accesses mode _ r m
 perform-accesses (Store k) mode r m h = aim-accesses mode _ r m h
 perform-accesses (Modify k) mode r m h = modify-accesses (eqb (operandBytes mode) 0) _ _ _ _ m refl (fetch-accesses mode _ r m)
@@ -194,23 +204,28 @@ pub entry-suits : (k : ℕ) (e : Entry) → decoded k ≡ Defined e → T (suits
 unfolding rows
 entry-suits = every-entry (λ e. suits (e .instruction) (e .mode)) tt
 
-pub act-accesses : (d : Decoded) (s : Machine) (m : List ℕ) → ((e : Entry) → d ≡ Defined e → T (suits (e .instruction) (e .mode)))
-    → accesses (act d s) m ≡ accessedByEntry d (s .registers) m
+pub act-accesses : (d : Decoded) (lines : Lines) (s : Machine) (m : List ℕ) → ((e : Entry) → d ≡ Defined e → T (suits (e .instruction) (e .mode)))
+    → accesses (act d lines s) m ≡ accessedByEntry d (s .registers) m
 unfolding accesses act
-act-accesses (Defined e) s m h =
+act-accesses (Defined e) lines s m h =
     accesses-bind (perform (e .instruction) (e .mode) (s .registers)) _ m
     ∙ append-nil _
     ∙ perform-accesses (e .instruction) (e .mode) (s .registers) m (h e refl)
-act-accesses Undefined s m h = refl
+act-accesses Undefined lines s m h = refl
+
+pub attend-accesses : (d : Due) (lines : Lines) (s : Machine) (m : List ℕ) → accesses (attend d lines s) m ≡ accessedByDue d (s .registers) m
+unfolding accesses attend served enter push pushAddress setS
+attend-accesses (Through vector) lines s m = simp down-down
+attend-accesses Quiet lines s m =
+    let opcode = getD m (s .registers .counter) 0 in
+    ap (λ (l : List Access). readAt (s .registers .counter) ∷ l) (act-accesses (decoded opcode) lines s m (entry-suits opcode))
 
 -- A step reads and stores to exactly these addresses, in this order.
-pub step-accesses : (size : ℕ) (s : Machine) (m : List ℕ) → accesses (step size s) m ≡ accessedByStep size s m
+pub step-accesses : (size : ℕ) (lines : Lines) (s : Machine) (m : List ℕ) → accesses (step size lines s) m ≡ accessedByStep size lines s m
 unfolding accesses step stepFull
-step-accesses size s m =
-    let opcode = getD m (s .registers .counter) 0 in
+step-accesses size lines s m =
     alike (Accesses m) (eqb size fullMemory) _ _ _ _
-    (alike (Accesses m) (ltb highestCount (s .cycles)) _ _ _ _ refl
-    (ap (λ (l : List Access). readAt (s .registers .counter) ∷ l) (act-accesses (decoded opcode) s m (entry-suits opcode))))
+    (alike (Accesses m) (ltb highestCount (s .cycles)) _ _ _ _ refl (attend-accesses (due lines s) lines s m))
     refl
 
 -- ---- the reads and the stores of such a list

@@ -1,11 +1,13 @@
 -- The worked examples of docs/RULES.md, computed on full memories: the starred ones together over one list, and the others after them.
 use Prim.Native.Nat.{ℕ}
 use mathlib.Core.Path.{_≡_, refl}
+use mathlib.Core.Bool.{true}
 use mathlib.Core.List.{List, [], _∷_, map}
 use lib.ListN.{getD, replicate}
 use lib.Seq.{sets}
-use Rattle.registers.specs.StatusByte.{pushedByte, pulledStatus}
+use Rattle.registers.specs.StatusByte.{statusByte, pulledStatus}
 use Rattle.instruction.specs.Opcodes.{rows, decoded}
+use Rattle.manual.specs.declared.Lines.{Lines}
 use Rattle.manual.specs.declared.Machine.{Machine}
 use Rattle.manual.specs.Micro.{exec}
 use Rattle.manual.specs.Words.{signed, outside, around}
@@ -18,15 +20,16 @@ use Rattle.manual.specs.Addressing.{target}
 use Rattle.manual.specs.IndexRegisters.{internal}
 use Rattle.manual.specs.Stack.{push, pull, pushAddress, pullAddress}
 use Rattle.manual.specs.Shifting.{modifiedFlags}
+use Rattle.manual.specs.Interrupts.{enter, idle}
 use Rattle.manual.specs.Instructions.{sum, difference, withOutput, taken, modify, perform}
 use Rattle.manual.specs.declared.Reason.{Reason}
 use Rattle.manual.specs.declared.Reason.the-variants.{Made, NotAnOpcode}
 use Rattle.manual.specs.Outcomes.{machineOf, ended}
-use Rattle.manual.specs.Stepping.{act, stepFull, step, runFull, run}
+use Rattle.manual.specs.Stepping.{act, attend, stepFull, step, runFull, run}
 
--- a machine, in the order of the report's fields: cycles, counter, A, X, Y, S, and the status as PHP pushes it
+-- a machine, in the order of the report's fields: cycles, counter, A, X, Y, S, and the status as PHP pushes it; NMI was high
 abbrev pub machine : ℕ → ℕ → ℕ → ℕ → ℕ → ℕ → ℕ → Machine
-machine cycles counter a x y s p = machineOf (registersOf a x y s counter (pulledStatus p)) cycles
+machine cycles counter a x y s p = machineOf (registersOf a x y s counter (pulledStatus p)) cycles true
 
 -- bytes laid down from an address on, the rest of 65,536 being 0
 abbrev pub Laid : Type 0
@@ -45,8 +48,8 @@ pub record Example : Type 0 where
   pub place : ℕ
   pub byte : ℕ
 
-abbrev pub outcome : Example → Reason × Machine × ℕ
-outcome e = let w = exec (step 65536 (e .before)) (memory (e .bytes)) in (w .0 .reason, w .0 .machine, getD (w .1) (e .place) 0)
+abbrev pub outcome : Lines → Example → Reason × Machine × ℕ
+outcome lines e = let w = exec (step 65536 lines (e .before)) (memory (e .bytes)) in (w .0 .reason, w .0 .machine, getD (w .1) (e .place) 0)
 
 abbrev pub expected : Example → Reason × Machine × ℕ
 expected e = (e .reason, e .left, e .byte)
@@ -92,8 +95,8 @@ starred =
     ∷ []
 
 -- The starred examples, together.
-pub starred-examples : map outcome starred ≡ map expected starred
-unfolding starred pulledStatus rows decoded signed outside around setA setX setY setS setPC setStatus setNZ setV setC setI flags shown sumOverflows differenceOverflows binarySum binaryDifference addedDigit decimalSum branchTarget branched target push sum difference withOutput taken perform act stepFull step
+pub starred-examples : map (outcome idle) starred ≡ map expected starred
+unfolding starred pulledStatus rows decoded signed outside around setA setX setY setS setPC setStatus setNZ setV setC setI flags shown sumOverflows differenceOverflows binarySum binaryDifference addedDigit decimalSum branchTarget branched target push sum difference withOutput taken perform act attend stepFull step
 starred-examples = refl
 
 -- The examples without a star, and some for rules that no theorem says in other terms.
@@ -127,12 +130,12 @@ others =
     ∷ example (machine 0 0x0200 0x42 0 0 0xFF 0x39) ((0x0200, 0xE9 ∷ 0x17 ∷ []) ∷ []) Made (machine 2 0x0202 0x25 0 0 0xFF 0x39)
     ∷ []
 
-pub other-examples : map outcome others ≡ map expected others
-unfolding others pulledStatus pushedByte rows decoded signed outside around setA setX setS setPC setStatus setNZ setV setC setI flags shown differenceOverflows takenDigit decimalDifference tested branchTarget branched target push pull pushAddress pullAddress difference withOutput taken internal modifiedFlags modify perform act stepFull step
+pub other-examples : map (outcome idle) others ≡ map expected others
+unfolding others pulledStatus statusByte rows decoded signed outside around setA setX setS setPC setStatus setNZ setV setC setI flags shown differenceOverflows takenDigit decimalDifference tested branchTarget branched target push pull pushAddress pullAddress difference withOutput taken internal modifiedFlags modify enter perform act attend stepFull step
 other-examples = refl
 
 -- The report's example: LDA #05, then a byte that is no opcode. The report prints `3 1 2 0202 05 00 00 FF 34`.
-pub report-image : exec (run 65536 1000 (machine 0 0x0200 0 0 0 0xFF 0x34)) (memory ((0xFFFD, 0x02 ∷ []) ∷ (0x0200, 0xA9 ∷ 0x05 ∷ 0x02 ∷ []) ∷ [])) .0
+pub report-image : exec (run 65536 1000 idle (machine 0 0x0200 0 0 0 0xFF 0x34)) (memory ((0xFFFD, 0x02 ∷ []) ∷ (0x0200, 0xA9 ∷ 0x05 ∷ 0x02 ∷ []) ∷ [])) .0
     ≡ ended NotAnOpcode 1 (machine 2 0x0202 0x05 0 0 0xFF 0x34)
-unfolding pulledStatus rows decoded setA setPC setStatus setNZ flags shown target taken perform act stepFull runFull run
+unfolding pulledStatus rows decoded setA setPC setStatus setNZ flags shown target taken perform act attend stepFull runFull run
 report-image = refl

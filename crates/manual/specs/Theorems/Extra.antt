@@ -19,6 +19,7 @@ use Rattle.manual.specs.Micro.{Micro, exec, Gives}
 use Rattle.manual.specs.Branching.{holds, branched}
 use Rattle.manual.specs.Addressing.{operand, target}
 use Rattle.manual.specs.Stack.{push, pull, pushAddress, pullAddress}
+use Rattle.manual.specs.Interrupts.{irqVector, enter}
 use Rattle.manual.specs.Instructions.{modify, perform}
 use Rattle.manual.specs.Theorems.Programs.{exec-bind, either}
 
@@ -41,7 +42,7 @@ extra-most PHA mode r m = rw (exec-bind (push (r .accumulator) r) _ m) (lit≤ t
 extra-most PHP mode r m = rw (exec-bind (push (pushedByte (r .status)) r) _ m) (lit≤ tt)
 extra-most PLA mode r m = rw (exec-bind (pull r) _ m) (lit≤ tt)
 extra-most PLP mode r m = rw (exec-bind (pull r) _ m) (lit≤ tt)
-extra-most BRK mode r m = rw (exec-bind (pushAddress (operand r 2) r) _ m) (rw (exec-bind (push (pushedByte (r .status)) _) _ _) (lit≤ tt))
+extra-most BRK mode r m = rw (exec-bind (enter (operand r 2) (pushedByte (r .status)) irqVector r) _ m) (lit≤ tt)
 extra-most RTI mode r m = rw (exec-bind (pull r) _ m) (rw (exec-bind (pullAddress _) _ _) (lit≤ tt))
 
 -- the same of whatever meets an instruction's promise

@@ -16,10 +16,14 @@ use Rattle.instruction.specs.declared.Decoded.{Decoded}
 use Rattle.instruction.specs.declared.Decoded.the-variants.{Defined, Undefined}
 use Rattle.instruction.specs.Modes.{operandBytes}
 use Rattle.instruction.specs.Opcodes.{decoded}
+use Rattle.manual.specs.declared.Lines.{Lines}
 use Rattle.manual.specs.declared.Machine.{Machine}
+use Rattle.manual.specs.declared.Due.{Due}
+use Rattle.manual.specs.declared.Due.the-variants.{Through, Quiet}
 use Rattle.manual.specs.Micro.{reads}
+use Rattle.manual.specs.Interrupts.{due}
 use Rattle.manual.specs.Stepping.{fullMemory, highestCount, step}
-use Rattle.manual.specs.ReadList.{is, operands, pointers, reached, listed, listedEntry}
+use Rattle.manual.specs.ReadList.{is, operands, pointers, reached, listed, listedEntry, listedDue}
 use Rattle.manual.specs.Theorems.Accesses.{suits, entry-suits}
 use Rattle.manual.specs.Theorems.Reads.{step-reads}
 use Rattle.manual.specs.Theorems.Programs.{either}
@@ -80,10 +84,15 @@ few-entry : (d : Decoded) (r : Registers) (m : List ℕ) → ((e : Entry) → d 
 few-entry (Defined e) r m h = few-listed (e .instruction) (e .mode) r m (h e refl)
 few-entry Undefined r m h = lit≤ tt
 
-pub at-most-five-reads : (size : ℕ) (s : Machine) (m : List ℕ) → length (reads (step size s) m) ≤ 5
-at-most-five-reads size s m =
-    let opcode = getD m (s .registers .counter) 0 in
-    rw (step-reads size s m)
+few-due : (d : Due) (r : Registers) (m : List ℕ) → length (listedDue d r m) ≤ 5
+few-due (Through vector) r m = lit≤ tt
+few-due Quiet r m =
+    let opcode = getD m (r .counter) 0 in
+    omega (arith, few-entry (decoded opcode) r m (entry-suits opcode))
+
+pub at-most-five-reads : (size : ℕ) (lines : Lines) (s : Machine) (m : List ℕ) → length (reads (step size lines s) m) ≤ 5
+at-most-five-reads size lines s m =
+    rw (step-reads size lines s m)
     (either (Few 5) (eqb size fullMemory) _ _
-    (either (Few 5) (ltb highestCount (s .cycles)) _ _ (lit≤ tt) (omega (arith, few-entry (decoded opcode) (s .registers) m (entry-suits opcode))))
+    (either (Few 5) (ltb highestCount (s .cycles)) _ _ (lit≤ tt) (few-due (due lines s) (s .registers) m))
     (lit≤ tt))

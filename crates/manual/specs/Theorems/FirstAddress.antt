@@ -20,8 +20,9 @@ use Rattle.manual.specs.Words.{low, address, page, joined}
 use Rattle.manual.specs.Flags.{shown}
 use Rattle.manual.specs.Addressing.{operand, indexed, target}
 use Rattle.manual.specs.Shifting.{modifiedFlags}
+use Rattle.manual.specs.Interrupts.{idle}
 use Rattle.manual.specs.Instructions.{taken, modify, perform}
-use Rattle.manual.specs.Stepping.{act, stepFull, step}
+use Rattle.manual.specs.Stepping.{act, attend, stepFull, step}
 use Rattle.manual.specs.Theorems.RegistersInRange.{InRange}
 use Rattle.manual.specs.Theorems.Within.{Bytes}
 use Rattle.manual.specs.Theorems.Examples.{memory, machine}
@@ -112,7 +113,7 @@ none-out IndirectIndexedY r m t = absurd t
 
 -- the address that a step puts out first, of a program at 0200 with X and Y
 abbrev firstOf : ℕ → ℕ → List ℕ → ℕ
-firstOf x y bytes = exec (step 65536 (machine 0 0x0200 0 x y 0xFF 0x30)) (memory ((0x0200, bytes) ∷ (0x00F0, 0xF0 ∷ 0x10 ∷ []) ∷ [])) .0 .first
+firstOf x y bytes = exec (step 65536 idle (machine 0 0x0200 0 x y 0xFF 0x30)) (memory ((0x0200, bytes) ∷ (0x00F0, 0xF0 ∷ 0x10 ∷ []) ∷ [])) .0 .first
 
 -- Over a page and not: a read, a store, a modification, a pointer; in the zero page; a jump; an immediate operand, and a byte that is no opcode.
 pub first-examples : firstOf 0x20 0 (0xBD ∷ 0xF0 ∷ 0x10 ∷ [])
@@ -126,5 +127,5 @@ pub first-examples : firstOf 0x20 0 (0xBD ∷ 0xF0 ∷ 0x10 ∷ [])
     ∷ firstOf 0 0 (0x02 ∷ [])
     ∷ []
     ≡ 0x1010 ∷ 0x10F1 ∷ 0x1010 ∷ 0x1010 ∷ 0x1010 ∷ 0x0010 ∷ 0x1234 ∷ 0 ∷ 0 ∷ []
-unfolding pulledStatus rows decoded setA setPC setStatus setNZ setC flags shown target modifiedFlags taken modify perform act stepFull step
+unfolding pulledStatus rows decoded setA setPC setStatus setNZ setC flags shown target modifiedFlags taken modify perform act attend stepFull step
 first-examples = refl

@@ -6,7 +6,7 @@ use mathlib.Core.List.{List}
 use borrow.Author.Tests.{eq-eqb, ne-eqb}
 use lib.ListN.{getD, set}
 use Rattle.registers.specs.declared.Registers.{Registers}
-use Rattle.registers.specs.StatusByte.{bit, pushedByte, pulledStatus}
+use Rattle.registers.specs.StatusByte.{bit, pushedByte, servedByte, pulledStatus}
 use Rattle.registers.specs.State.{setA, setPC, setStatus, setV, setC, setI, flags}
 use Rattle.instruction.specs.declared.Instruction.the-variants.{Read, Store, Branch, BRK, JMP, JSR, PHA, PHP, PLA, PLP, RTI, RTS}
 use Rattle.instruction.specs.declared.ReadOperation.{ReadOperation}
@@ -26,6 +26,7 @@ use Rattle.manual.specs.Addressing.{operand, target}
 use Rattle.manual.specs.IndexRegisters.{loadA}
 use Rattle.manual.specs.Stack.{push, pull, pushAddress, pullAddress}
 use Rattle.manual.specs.Shifting.{modified, modifiedFlags}
+use Rattle.manual.specs.Interrupts.{irqVector, enter, served}
 use Rattle.manual.specs.Instructions.{withOutput, taken, stored, advanced, modify, perform}
 use Rattle.manual.specs.Outcomes.{leavesAt, leaves}
 use Rattle.manual.specs.Theorems.Programs.{then}
@@ -53,6 +54,19 @@ pub pull-address-gives : (r : Registers) (m : List ℕ) {l h : ℕ} {r₁ r₂ :
     → Gives (pull r) m (l, r₁) m → Gives (pull r₁) m (h, r₂) m → Gives (pullAddress r) m (joined h l, r₂) m
 unfolding pullAddress
 pull-address-gives r m {r₁ = r₁} e f = then (pull r) _ m e (then (pull r₁) _ m f refl)
+
+-- ---- interrupts
+
+pub enter-gives : (back b vector : ℕ) (r : Registers) (m : List ℕ) {r₁ r₂ : Registers} {m₁ m₂ : List ℕ} → Gives (pushAddress back r) m r₁ m₁
+    → Gives (push b r₁) m₁ r₂ m₂
+    → Gives (enter back b vector r) m (setPC (joined (getD m₂ (vector + 1) 0) (getD m₂ vector 0)) (flags (setI true) r₂)) m₂
+unfolding enter
+enter-gives back b vector r m {r₁ = r₁} {m₁ = m₁} e f = then (pushAddress back r) _ m e (then (push b r₁) _ m₁ f refl)
+
+pub served-gives : (vector : ℕ) (r : Registers) (m : List ℕ) {r₁ : Registers} {m₁ : List ℕ}
+    → Gives (enter (r .counter) (servedByte (r .status)) vector r) m r₁ m₁ → Gives (served vector r) m r₁ m₁
+unfolding served
+served-gives vector r m e = e
 
 -- ---- where the mode leads
 
@@ -119,11 +133,10 @@ module _ (mode : AddressingMode) (r : Registers) (m : List ℕ) where
   unfolding perform
   pull-status-gives e = then (pull r) _ m e refl
 
-  pub break-gives : {r₁ r₂ : Registers} {m₁ m₂ : List ℕ} → Gives (pushAddress (operand r 2) r) m r₁ m₁
-      → Gives (push (pushedByte (r .status)) r₁) m₁ r₂ m₂
-      → Gives (perform BRK mode r) m (leaves (setPC (joined (getD m₂ 0xFFFF 0) (getD m₂ 0xFFFE 0)) (flags (setI true) r₂)) 0) m₂
+  pub break-gives : {r₁ : Registers} {m₁ : List ℕ} → Gives (enter (operand r 2) (pushedByte (r .status)) irqVector r) m r₁ m₁
+      → Gives (perform BRK mode r) m (leaves r₁ 0) m₁
   unfolding perform
-  break-gives {r₁ = r₁} {m₁ = m₁} e f = then (pushAddress (operand r 2) r) _ m e (then (push (pushedByte (r .status)) r₁) _ m₁ f refl)
+  break-gives e = then (enter (operand r 2) (pushedByte (r .status)) irqVector r) _ m e refl
 
   pub return-from-interrupt-gives : {b p : ℕ} {r₁ r₂ : Registers} → Gives (pull r) m (b, r₁) m → Gives (pullAddress r₁) m (p, r₂) m
       → Gives (perform RTI mode r) m (leaves (setPC p (setStatus (pulledStatus b) r₂)) 0) m

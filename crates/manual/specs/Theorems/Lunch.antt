@@ -1,10 +1,11 @@
 -- A run in two parts (P12): whoever halts a run and goes on later from the state that it left has what the whole run gives, and the steps
--- of the two add up. A run that was stopped in its first part is the whole run.
+-- of the two add up; the levels of the lines are the same throughout. A run that was stopped in its first part is the whole run.
 use Prim.Native.Nat.{ℕ, zero, suc, _+_, _≤_, _<_}
 use mathlib.Core.Path.{_≡_, refl, ap, sym, _∙_}
 use mathlib.Core.Bool.{Bool, true, false, cond}
 use mathlib.Core.List.{List}
 use native.Mathlib.Omega.{arith}
+use Rattle.manual.specs.declared.Lines.{Lines}
 use Rattle.manual.specs.declared.Machine.{Machine}
 use Rattle.manual.specs.declared.Ended.{Ended}
 use Rattle.manual.specs.declared.Reason.{Reason}
@@ -21,62 +22,62 @@ abbrev pub added : ℕ → Ended × List ℕ → Ended × List ℕ
 added j w = (ended (w .0 .reason) (j + w .0 .steps) (w .0 .machine), w .1)
 
 -- the count goes on from where it begins
-counted-on : (n j k : ℕ) (s : Machine) (m : List ℕ) → exec (runFull n (j + k) s) m ≡ added j (exec (runFull n k s) m)
+counted-on : (n j k : ℕ) (lines : Lines) (s : Machine) (m : List ℕ) → exec (runFull n (j + k) lines s) m ≡ added j (exec (runFull n k lines s) m)
 unfolding runFull
-counted-on zero j k s m = refl
-counted-on (suc n) j k s m =
-    let w = exec (stepFull s) m in
-    exec-bind (stepFull s) _ m ∙ go (isMade (w .0 .reason)) (w .0 .reason) (w .0 .machine) (w .1) (counted-on n j (k + 1) (w .0 .machine) (w .1)) ∙ ap (added j) (sym (exec-bind (stepFull s) _ m))
+counted-on zero j k lines s m = refl
+counted-on (suc n) j k lines s m =
+    let w = exec (stepFull lines s) m in
+    exec-bind (stepFull lines s) _ m ∙ go (isMade (w .0 .reason)) (w .0 .reason) (w .0 .machine) (w .1) (counted-on n j (k + 1) lines (w .0 .machine) (w .1)) ∙ ap (added j) (sym (exec-bind (stepFull lines s) _ m))
   where
-    go : (t : Bool) (r : Reason) (q : Machine) (e : List ℕ) → exec (runFull n (j + (k + 1)) q) e ≡ added j (exec (runFull n (k + 1) q) e)
-        → exec (cond t (runFull n (j + k + 1) q) (done (ended r (j + k) q))) e ≡ added j (exec (cond t (runFull n (k + 1) q) (done (ended r k q))) e)
+    go : (t : Bool) (r : Reason) (q : Machine) (e : List ℕ) → exec (runFull n (j + (k + 1)) lines q) e ≡ added j (exec (runFull n (k + 1) lines q) e)
+        → exec (cond t (runFull n (j + k + 1) lines q) (done (ended r (j + k) q))) e ≡ added j (exec (cond t (runFull n (k + 1) lines q) (done (ended r k q))) e)
     go true r q e h = let same : j + k + 1 ≡ j + (k + 1) = omega arith in rw same h
     go false r q e h = refl
 
 -- ---- on a full memory, with any number of steps
 
-module _ (k n : ℕ) (s : Machine) (m : List ℕ) where
-  went-on : {q : Ended} {m′ : List ℕ} → Ends k s m q m′ → q .reason ≡ Made
-      → exec (runFull (k + n) 0 s) m ≡ added (q .steps) (exec (runFull n 0 (q .machine)) m′)
+module _ (k n : ℕ) (lines : Lines) (s : Machine) (m : List ℕ) where
+  went-on : {q : Ended} {m′ : List ℕ} → Ends k lines s m q m′ → q .reason ≡ Made
+      → exec (runFull (k + n) 0 lines s) m ≡ added (q .steps) (exec (runFull n 0 lines (q .machine)) m′)
   went-on (all-made {s′} {m′} led) p =
       let begins : 0 + k ≡ k + 0 = omega arith in
-      run-after k n 0 s m s′ m′ led ∙ ap (λ (c : ℕ). exec (runFull n c s′) m′) begins ∙ counted-on n k 0 s′ m′
+      run-after k n 0 lines s m s′ m′ led ∙ ap (λ (c : ℕ). exec (runFull n c lines s′) m′) begins ∙ counted-on n k 0 lines s′ m′
   went-on (no-cycle-room l led r) p = let z : _≡_ {A = ℕ} 0 1 = cc in absurd (omega arith)
   went-on (not-an-opcode l led r) p = let z : _≡_ {A = ℕ} 0 1 = cc in absurd (omega arith)
 
-  was-stopped : {q : Ended} {m′ : List ℕ} → Ends k s m q m′ → (q .reason ≡ Made → ⊥) → Gives (runFull (k + n) 0 s) m q m′
+  was-stopped : {q : Ended} {m′ : List ℕ} → Ends k lines s m q m′ → (q .reason ≡ Made → ⊥) → Gives (runFull (k + n) 0 lines s) m q m′
   was-stopped (all-made led) f = absurd (f refl)
-  was-stopped (no-cycle-room {k = j} l led r) f = ends-run (k + n) s m (no-cycle-room {k = j} (omega arith) led r)
-  was-stopped (not-an-opcode {k = j} l led r) f = ends-run (k + n) s m (not-an-opcode {k = j} (omega arith) led r)
+  was-stopped (no-cycle-room {k = j} l led r) f = ends-run (k + n) lines s m (no-cycle-room {k = j} (omega arith) led r)
+  was-stopped (not-an-opcode {k = j} l led r) f = ends-run (k + n) lines s m (not-an-opcode {k = j} (omega arith) led r)
 
-  pub full-lunch : {q : Ended} {m′ : List ℕ} → Gives (runFull k 0 s) m q m′ → q .reason ≡ Made
-      → exec (runFull (k + n) 0 s) m ≡ added (q .steps) (exec (runFull n 0 (q .machine)) m′)
-  full-lunch g p = went-on (run-ends k s m g) p
+  pub full-lunch : {q : Ended} {m′ : List ℕ} → Gives (runFull k 0 lines s) m q m′ → q .reason ≡ Made
+      → exec (runFull (k + n) 0 lines s) m ≡ added (q .steps) (exec (runFull n 0 lines (q .machine)) m′)
+  full-lunch g p = went-on (run-ends k lines s m g) p
 
-  pub full-stopped : {q : Ended} {m′ : List ℕ} → Gives (runFull k 0 s) m q m′ → (q .reason ≡ Made → ⊥) → Gives (runFull (k + n) 0 s) m q m′
-  full-stopped g f = was-stopped (run-ends k s m g) f
+  pub full-stopped : {q : Ended} {m′ : List ℕ} → Gives (runFull k 0 lines s) m q m′ → (q .reason ≡ Made → ⊥) → Gives (runFull (k + n) 0 lines s) m q m′
+  full-stopped g f = was-stopped (run-ends k lines s m g) f
 
 -- ---- P12
 
-module _ (size k n : ℕ) (s : Machine) (m : List ℕ) (allowed : k + n ≤ highestBound) where
-  by-table : {q p : Ended} {m′ m″ : List ℕ} → RunTable size k s m q m′ → q .reason ≡ Made → Gives (run size n (q .machine)) m′ p m″
-      → Gives (run size (k + n) s) m (ended (p .reason) (q .steps + p .steps) (p .machine)) m″
+module _ (size k n : ℕ) (lines : Lines) (s : Machine) (m : List ℕ) (allowed : k + n ≤ highestBound) where
+  by-table : {q p : Ended} {m′ m″ : List ℕ} → RunTable size k lines s m q m′ → q .reason ≡ Made → Gives (run size n lines (q .machine)) m′ p m″
+      → Gives (run size (k + n) lines s) m (ended (p .reason) (q .steps + p .steps) (p .machine)) m″
   by-table {q} {p} {m′} {m″} (ran a e) made g =
-      rw (run-whole size (k + n) s (a .0) allowed)
-      (full-lunch k n s m (ends-run k s m e) made ∙ ap (added (q .steps)) (rw (run-whole size n (q .machine) (a .0) (omega arith)) at g))
+      rw (run-whole size (k + n) lines s (a .0) allowed)
+      (full-lunch k n lines s m (ends-run k lines s m e) made ∙ ap (added (q .steps)) (rw (run-whole size n lines (q .machine) (a .0) (omega arith)) at g))
   by-table (memory-not-full f) made g = let z : _≡_ {A = ℕ} 0 1 = cc in absurd (omega arith)
   by-table (bound-too-high e l) made g = let z : _≡_ {A = ℕ} 0 1 = cc in absurd (omega arith)
 
   -- Where the first part answered 0, the two parts are the whole: same reason, machine and memory, and the steps add up.
-  pub lunch : {q p : Ended} {m′ m″ : List ℕ} → Gives (run size k s) m q m′ → q .reason ≡ Made → Gives (run size n (q .machine)) m′ p m″
-      → Gives (run size (k + n) s) m (ended (p .reason) (q .steps + p .steps) (p .machine)) m″
-  lunch g made h = by-table (run-answers size k s m .0 g) made h
+  pub lunch : {q p : Ended} {m′ m″ : List ℕ} → Gives (run size k lines s) m q m′ → q .reason ≡ Made → Gives (run size n lines (q .machine)) m′ p m″
+      → Gives (run size (k + n) lines s) m (ended (p .reason) (q .steps + p .steps) (p .machine)) m″
+  lunch g made h = by-table (run-answers size k lines s m .0 g) made h
 
-  by-refusal : {q : Ended} {m′ : List ℕ} → RunTable size k s m q m′ → (q .reason ≡ Made → ⊥) → Gives (run size (k + n) s) m q m′
-  by-refusal (ran a e) f = rw (run-whole size (k + n) s (a .0) allowed) (full-stopped k n s m (ends-run k s m e) f)
-  by-refusal (memory-not-full f) g = run-short size (k + n) s m f
+  by-refusal : {q : Ended} {m′ : List ℕ} → RunTable size k lines s m q m′ → (q .reason ≡ Made → ⊥) → Gives (run size (k + n) lines s) m q m′
+  by-refusal (ran a e) f = rw (run-whole size (k + n) lines s (a .0) allowed) (full-stopped k n lines s m (ends-run k lines s m e) f)
+  by-refusal (memory-not-full f) g = run-short size (k + n) lines s m f
   by-refusal (bound-too-high e l) f = absurd (omega arith)
 
   -- Where the first part was stopped, its whole answer is the long run's.
-  pub stopped-before-lunch : {q : Ended} {m′ : List ℕ} → Gives (run size k s) m q m′ → (q .reason ≡ Made → ⊥) → Gives (run size (k + n) s) m q m′
-  stopped-before-lunch g f = by-refusal (run-answers size k s m .0 g) f
+  pub stopped-before-lunch : {q : Ended} {m′ : List ℕ} → Gives (run size k lines s) m q m′ → (q .reason ≡ Made → ⊥) → Gives (run size (k + n) lines s) m q m′
+  stopped-before-lunch g f = by-refusal (run-answers size k lines s m .0 g) f

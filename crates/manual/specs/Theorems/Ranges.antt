@@ -1,13 +1,13 @@
 -- From registers and bytes in range every step and every run leaves them in range. A step adds at most 7 to the cycle count. (That the
 -- memory stays as long as it was is `exec-length` of Programs.)
 use Prim.Native.Nat.{ℕ, zero, suc, _+_, _*_, _≤_, _<_}
-use mathlib.Core.Path.{_≡_, refl}
-use mathlib.Core.Bool.{Bool, true, false, cond}
+use mathlib.Core.Path.{_≡_, refl, ap}
+use mathlib.Core.Bool.{Bool, true, false, not, cond, _&&_}
 use mathlib.Core.List.{List}
 use native.Mathlib.Omega.{arith}
 use lib.Dec.{lit<, eqb, leb, ltb, lit≤}
 use Rattle.registers.specs.declared.Registers.{Registers}
-use Rattle.registers.specs.StatusByte.{pushedByte}
+use Rattle.registers.specs.StatusByte.{pushedByte, servedByte}
 use Rattle.registers.specs.RoundTrip.{bit-most, pushed-byte}
 use Rattle.instruction.specs.declared.Instruction.{Instruction}
 use Rattle.instruction.specs.declared.Instruction.the-variants.{Read, Store, Modify, Branch, Internal, BRK, JMP, JSR, PHA, PHP, PLA, PLP, RTI, RTS}
@@ -20,7 +20,10 @@ use Rattle.instruction.specs.declared.Decoded.the-variants.{Defined, Undefined}
 use Rattle.instruction.specs.Modes.{operandBytes}
 use Rattle.instruction.specs.Opcodes.{decoded}
 use Rattle.instruction.specs.Table.{mostExtra, Ruled, ruled}
+use Rattle.manual.specs.declared.Lines.{Lines}
 use Rattle.manual.specs.declared.Machine.{Machine}
+use Rattle.manual.specs.declared.Due.{Due}
+use Rattle.manual.specs.declared.Due.the-variants.{Through, Quiet}
 use Rattle.manual.specs.declared.Target.{Target}
 use Rattle.manual.specs.declared.Effect.{Effect}
 use Rattle.manual.specs.Micro.{done, exec}
@@ -28,15 +31,17 @@ use Rattle.manual.specs.Words.{low, address, page}
 use Rattle.manual.specs.Branching.{branchTarget, branched, holds}
 use Rattle.manual.specs.Addressing.{operand, target}
 use Rattle.manual.specs.Stack.{push, pull, pushAddress, pullAddress}
+use Rattle.manual.specs.Interrupts.{irqVector, enter, served, due}
 use Rattle.manual.specs.Instructions.{modify, perform}
 use Rattle.manual.specs.declared.Stepped.{Stepped}
 use Rattle.manual.specs.declared.Ended.{Ended}
 use Rattle.manual.specs.declared.Reason.{Reason}
 use Rattle.manual.specs.Outcomes.{isMade, ended}
-use Rattle.manual.specs.Stepping.{fullMemory, highestCount, highestBound, act, stepFull, step, runFull, run}
+use Rattle.manual.specs.Stepping.{fullMemory, highestCount, highestBound, act, attend, stepFull, step, runFull, run}
 use Rattle.manual.specs.Theorems.Within.{Within, Bytes, InMemory, within-exec, within-bind, within-weaken, within-memory}
 use Rattle.manual.specs.Theorems.RegistersInRange.{InRange, in-setA, in-setS, in-setPC, in-setStatus, in-flags, in-advanced, in-loadA, in-taken, in-stored, in-modified, in-modified-flags, in-internal, in-around}
 use Rattle.manual.specs.Theorems.Programs.{either}
+use Rattle.manual.specs.Theorems.Answers.{not-quiet}
 
 abbrev Aimed : Target → Type 0
 Aimed t = (t .address < 65536) × (t .first < 65536)
@@ -79,6 +84,19 @@ unfolding pullAddress
 pull-address-within r h =
     within-bind (Pulled 256) (Pulled 65536) (pull r) _ (pull-within r h)
     (λ v hv. within-bind (Pulled 256) (Pulled 65536) (pull (v .1)) _ (pull-within (v .1) (hv .1)) (λ w hw. (omega (arith, hv .0, hw .0), hw .1)))
+
+-- the way into an interrupt, through a vector of the memory
+enter-within : (back b vector : ℕ) (r : Registers) → back < 65536 → b < 256 → vector + 1 < 65536 → InRange r
+    → Within InRange (enter back b vector r)
+unfolding enter
+enter-within back b vector r l i v h =
+    within-bind InRange InRange (pushAddress back r) _ (push-address-within back r l h)
+    (λ r₁ h₁. within-bind InRange InRange (push b r₁) _ (push-within b r₁ i h₁)
+    (λ r₂ h₂. (omega arith, λ d j. (v, λ e k. in-setPC _ (in-flags r₂ h₂ _) _ (omega arith)))))
+
+served-within : (vector : ℕ) (r : Registers) → vector + 1 < 65536 → InRange r → Within InRange (served vector r)
+unfolding served
+served-within vector r v h = enter-within (r .counter) (servedByte (r .status)) vector r (h .counter) (pushed-byte false (r .status)) v h
 
 -- an effect in range, with at most so many extra cycles, and an address that is put out first
 abbrev pub Ranged : ℕ → Effect → Type 0
@@ -124,7 +142,7 @@ perform-within RTS mode r h =
 perform-within PHA mode r h =
     within-bind InRange (Ranged 0) (push (r .accumulator) r) _ (push-within _ r (h .accumulator) h) (λ r₁ h₁. (in-advanced r₁ h₁ mode, lit≤ tt, lit< tt))
 perform-within PHP mode r h =
-    within-bind InRange (Ranged 0) (push (pushedByte (r .status)) r) _ (push-within _ r (pushed-byte (r .status)) h)
+    within-bind InRange (Ranged 0) (push (pushedByte (r .status)) r) _ (push-within _ r (pushed-byte true (r .status)) h)
     (λ r₁ h₁. (in-advanced r₁ h₁ mode, lit≤ tt, lit< tt))
 perform-within PLA mode r h =
     within-bind (Pulled 256) (Ranged 0) (pull r) _ (pull-within r h)
@@ -133,9 +151,9 @@ perform-within PLP mode r h =
     within-bind (Pulled 256) (Ranged 0) (pull r) _ (pull-within r h)
     (λ w hw. (in-setStatus _ (in-advanced (w .1) (hw .1) mode) _, lit≤ tt, lit< tt))
 perform-within BRK mode r h =
-    within-bind InRange (Ranged 0) (pushAddress (operand r 2) r) _ (push-address-within _ r (omega arith) h)
-    (λ r₁ h₁. within-bind InRange (Ranged 0) (push (pushedByte (r .status)) r₁) _ (push-within _ r₁ (pushed-byte (r .status)) h₁)
-    (λ r₂ h₂. (lit≤ tt, λ b l. (lit≤ tt, λ c k. (in-setPC _ (in-flags r₂ h₂ _) _ (omega arith), lit≤ tt, lit< tt)))))
+    within-bind InRange (Ranged 0) (enter (operand r 2) (pushedByte (r .status)) irqVector r) _
+    (enter-within _ _ irqVector r (omega arith) (pushed-byte true (r .status)) (lit< tt) h)
+    (λ r₁ h₁. (h₁, lit≤ tt, lit< tt))
 perform-within RTI mode r h =
     within-bind (Pulled 256) (Ranged 0) (pull r) _ (pull-within r h)
     (λ v hv. within-bind (Pulled 65536) (Ranged 0) (pullAddress (v .1)) _ (pull-address-within (v .1) (hv .1))
@@ -158,66 +176,90 @@ StepKept from q = Kept from (allowance (q .reason)) (q .machine) × (q .first < 
 unmoved : (from : ℕ) (s : Machine) → InRange (s .registers) → s .cycles ≤ from → Kept from 0 s × (0 < 65536)
 unmoved from s h l = (record { registers = h; cycles = omega arith }, lit< tt)
 
-act-within : (d : Decoded) (s : Machine) → InRange (s .registers)
+act-within : (d : Decoded) (lines : Lines) (s : Machine) → InRange (s .registers)
     → ((e : Entry) → d ≡ Defined e → Ruled e)
-    → Within (StepKept (s .cycles)) (act d s)
+    → Within (StepKept (s .cycles)) (act d lines s)
 unfolding act
-act-within (Defined e) s h c =
+act-within (Defined e) lines s h c =
     within-bind (Ranged (mostExtra (e .instruction))) (StepKept (s .cycles)) (perform (e .instruction) (e .mode) (s .registers)) _
     (perform-within (e .instruction) (e .mode) (s .registers) h)
     (λ f l. (record { registers = l .0; cycles = omega (arith, l .1, c e refl .total-most) }, l .2))
-act-within Undefined s h c = unmoved (s .cycles) s h (omega arith)
+act-within Undefined lines s h c = unmoved (s .cycles) s h (omega arith)
 
-step-full-within : (s : Machine) → InRange (s .registers) → Within (StepKept (s .cycles)) (stepFull s)
+attend-within : (d : Due) (lines : Lines) (s : Machine) → InRange (s .registers) → ((vector : ℕ) → d ≡ Through vector → vector + 1 < 65536)
+    → Within (StepKept (s .cycles)) (attend d lines s)
+unfolding attend
+attend-within (Through vector) lines s h v =
+    within-bind InRange (StepKept (s .cycles)) (served vector (s .registers)) _ (served-within vector (s .registers) (v vector refl) h)
+    (λ r l. (record { registers = l; cycles = omega arith }, lit< tt))
+attend-within Quiet lines s h v = (h .counter, λ b l. act-within (decoded b) lines s h (ruled b))
+
+-- both vectors are of the memory
+pub vector-within : (lines : Lines) (s : Machine) (vector : ℕ) → due lines s ≡ Through vector → vector + 1 < 65536
+vector-within lines s =
+    either Low (s .nmi && not (lines .nmi)) _ _ (λ v e. low v _ e (lit< tt))
+    (either Low (not (lines .irq) && not (s .registers .status .disable)) _ _ (λ v e. low v _ e (lit< tt)) (λ v e. absurd (not-quiet _ v refl e)))
+  where
+    Low : Due → Type 0
+    Low d = (vector : ℕ) → d ≡ Through vector → vector + 1 < 65536
+
+    of : Due → ℕ
+    of (Through v) = v
+    of Quiet = 0
+
+    low : (v w : ℕ) → Through w ≡ Through v → w + 1 < 65536 → v + 1 < 65536
+    low v w e l = let same : w ≡ v = ap of e in omega arith
+
+step-full-within : (lines : Lines) (s : Machine) → InRange (s .registers) → Within (StepKept (s .cycles)) (stepFull lines s)
 unfolding stepFull
-step-full-within s h =
+step-full-within lines s h =
     either (Within (StepKept (s .cycles))) (ltb highestCount (s .cycles)) _ _
     (unmoved (s .cycles) s h (omega arith))
-    (h .counter, λ b l. act-within (decoded b) s h (ruled b))
+    (attend-within (due lines s) lines s h (vector-within lines s))
 
-step-within : (size : ℕ) (s : Machine) → InRange (s .registers) → Within (StepKept (s .cycles)) (step size s)
+step-within : (size : ℕ) (lines : Lines) (s : Machine) → InRange (s .registers) → Within (StepKept (s .cycles)) (step size lines s)
 unfolding step
-step-within size s h = either (Within (StepKept (s .cycles))) (eqb size fullMemory) _ _ (step-full-within s h) (unmoved (s .cycles) s h (omega arith))
+step-within size lines s h = either (Within (StepKept (s .cycles))) (eqb size fullMemory) _ _ (step-full-within lines s h) (unmoved (s .cycles) s h (omega arith))
 
 -- A step from registers and bytes in range leaves them in range. It adds at most 7 to the cycle count, and nothing where it is refused.
-pub step-ranges : (size : ℕ) (s : Machine) (m : List ℕ) → InRange (s .registers) → Bytes m
-    → StepKept (s .cycles) (exec (step size s) m .0) × Bytes (exec (step size s) m .1)
-step-ranges size s m h b = within-exec (StepKept (s .cycles)) (step size s) m (step-within size s h) b
+pub step-ranges : (size : ℕ) (lines : Lines) (s : Machine) (m : List ℕ) → InRange (s .registers) → Bytes m
+    → StepKept (s .cycles) (exec (step size lines s) m .0) × Bytes (exec (step size lines s) m .1)
+step-ranges size lines s m h b = within-exec (StepKept (s .cycles)) (step size lines s) m (step-within size lines s h) b
 
 -- registers in range, and at most 7 cycles for each of the steps made after k
 abbrev pub RunKept : ℕ → ℕ → Ended → Type 0
 RunKept from k q = InRange (q .machine .registers) × (q .machine .cycles + 7 * k ≤ from + 7 * q .steps)
 
-run-full-within : (n k : ℕ) (s : Machine) → InRange (s .registers) → Within (RunKept (s .cycles) k) (runFull n k s)
+run-full-within : (n k : ℕ) (lines : Lines) (s : Machine) → InRange (s .registers) → Within (RunKept (s .cycles) k) (runFull n k lines s)
 unfolding runFull
-run-full-within zero k s h = (h, omega arith)
-run-full-within (suc n) k s h =
-    within-bind (StepKept (s .cycles)) (RunKept (s .cycles) k) (stepFull s) _ (step-full-within s h)
-    (λ q l. go (isMade (q .reason)) (q .reason) (q .machine) (l .0) (run-full-within n (k + 1) (q .machine) (l .0 .registers)))
+run-full-within zero k lines s h = (h, omega arith)
+run-full-within (suc n) k lines s h =
+    within-bind (StepKept (s .cycles)) (RunKept (s .cycles) k) (stepFull lines s) _ (step-full-within lines s h)
+    (λ q l. go (isMade (q .reason)) (q .reason) (q .machine) (l .0) (run-full-within n (k + 1) lines (q .machine) (l .0 .registers)))
   where
-    go : (t : Bool) (a : Reason) (q : Machine) → Kept (s .cycles) (cond t 7 0) q → Within (RunKept (q .cycles) (k + 1)) (runFull n (k + 1) q)
-        → Within (RunKept (s .cycles) k) (cond t (runFull n (k + 1) q) (done (ended a k q)))
+    go : (t : Bool) (a : Reason) (q : Machine) → Kept (s .cycles) (cond t 7 0) q → Within (RunKept (q .cycles) (k + 1)) (runFull n (k + 1) lines q)
+        → Within (RunKept (s .cycles) k) (cond t (runFull n (k + 1) lines q) (done (ended a k q)))
     go true a q l w =
-        within-weaken (RunKept (q .cycles) (k + 1)) (RunKept (s .cycles) k) (runFull n (k + 1) q)
+        within-weaken (RunKept (q .cycles) (k + 1)) (RunKept (s .cycles) k) (runFull n (k + 1) lines q)
         (λ f g. (g .0, omega (arith, g .1, l .cycles)))
         w
     go false a q l w = (l .registers, omega (arith, l .cycles))
 
-run-within : (size bound : ℕ) (s : Machine) → InRange (s .registers) → Within (RunKept (s .cycles) 0) (run size bound s)
+run-within : (size bound : ℕ) (lines : Lines) (s : Machine) → InRange (s .registers) → Within (RunKept (s .cycles) 0) (run size bound lines s)
 unfolding run
-run-within size bound s h =
+run-within size bound lines s h =
     either (Within (RunKept (s .cycles) 0)) (eqb size fullMemory) _ _
-    (either (Within (RunKept (s .cycles) 0)) (leb bound highestBound) _ _ (run-full-within bound 0 s h) (h, omega arith))
+    (either (Within (RunKept (s .cycles) 0)) (leb bound highestBound) _ _ (run-full-within bound 0 lines s h) (h, omega arith))
     (h, omega arith)
 
 -- A run does the same, and adds at most 7 cycles for each step that it made.
-pub run-ranges : (size bound : ℕ) (s : Machine) (m : List ℕ) → InRange (s .registers) → Bytes m
-    → RunKept (s .cycles) 0 (exec (run size bound s) m .0) × Bytes (exec (run size bound s) m .1)
-run-ranges size bound s m h b = within-exec (RunKept (s .cycles) 0) (run size bound s) m (run-within size bound s h) b
+pub run-ranges : (size bound : ℕ) (lines : Lines) (s : Machine) (m : List ℕ) → InRange (s .registers) → Bytes m
+    → RunKept (s .cycles) 0 (exec (run size bound lines s) m .0) × Bytes (exec (run size bound lines s) m .1)
+run-ranges size bound lines s m h b = within-exec (RunKept (s .cycles) 0) (run size bound lines s) m (run-within size bound lines s h) b
 
 -- Every address that a step reads or stores to is one of the memory's, and so is every one of a run.
-pub step-in-memory : (size : ℕ) (s : Machine) (m : List ℕ) → InRange (s .registers) → Bytes m → InMemory (step size s) m
-step-in-memory size s m h b = within-memory (StepKept (s .cycles)) (step size s) m (step-within size s h) b
+pub step-in-memory : (size : ℕ) (lines : Lines) (s : Machine) (m : List ℕ) → InRange (s .registers) → Bytes m → InMemory (step size lines s) m
+step-in-memory size lines s m h b = within-memory (StepKept (s .cycles)) (step size lines s) m (step-within size lines s h) b
 
-pub run-in-memory : (size bound : ℕ) (s : Machine) (m : List ℕ) → InRange (s .registers) → Bytes m → InMemory (run size bound s) m
-run-in-memory size bound s m h b = within-memory (RunKept (s .cycles) 0) (run size bound s) m (run-within size bound s h) b
+pub run-in-memory : (size bound : ℕ) (lines : Lines) (s : Machine) (m : List ℕ) → InRange (s .registers) → Bytes m → InMemory (run size bound lines s) m
+run-in-memory size bound lines s m h b = within-memory (RunKept (s .cycles) 0) (run size bound lines s) m (run-within size bound lines s h) b

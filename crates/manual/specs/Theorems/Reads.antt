@@ -8,51 +8,62 @@ use Rattle.instruction.specs.declared.Entry.{Entry}
 use Rattle.instruction.specs.declared.Decoded.{Decoded}
 use Rattle.instruction.specs.declared.Decoded.the-variants.{Defined, Undefined}
 use Rattle.instruction.specs.Opcodes.{decoded}
+use Rattle.manual.specs.declared.Lines.{Lines}
 use Rattle.manual.specs.declared.Machine.{Machine}
+use Rattle.manual.specs.declared.Due.{Due}
+use Rattle.manual.specs.declared.Due.the-variants.{Through, Quiet}
 use Rattle.manual.specs.Micro.{Micro, exec, accesses, readsOf, reads}
 use Rattle.manual.specs.Outcomes.{isMade}
-use Rattle.manual.specs.Stepping.{fullMemory, highestCount, highestBound, act, stepFull, step, runFull, run, longRun}
-use Rattle.manual.specs.ReadList.{listed, listedEntry, listedStepFull, listedStep, listedRunFull, listedRun, listedLongRun}
+use Rattle.manual.specs.Interrupts.{due}
+use Rattle.manual.specs.Stepping.{fullMemory, highestCount, highestBound, act, attend, stepFull, step, runFull, run, longRun}
+use Rattle.manual.specs.ReadList.{listed, listedEntry, listedDue, listedStepFull, listedStep, listedRunFull, listedRun, listedLongRun}
 use Rattle.manual.specs.Theorems.Programs.{reads-bind, alike}
-use Rattle.manual.specs.Theorems.Accesses.{storedTo, orderOf, suits, entry-suits, act-accesses, reads-in-order}
+use Rattle.manual.specs.Theorems.Accesses.{storedTo, orderOf, stores-first, threePushed, suits, entry-suits, act-accesses, attend-accesses, reads-in-order}
 
 -- the program p reads l
 abbrev ReadsFrom : {A : Type 0} → List ℕ → Micro A → List ℕ → Type 0
 ReadsFrom m p l = reads p m ≡ l
 
-act-reads : (d : Decoded) (s : Machine) (m : List ℕ) → ((e : Entry) → d ≡ Defined e → T (suits (e .instruction) (e .mode)))
-    → reads (act d s) m ≡ listedEntry d (s .registers) m
-act-reads (Defined e) s m h =
-    ap readsOf (act-accesses (Defined e) s m h)
+act-reads : (d : Decoded) (lines : Lines) (s : Machine) (m : List ℕ) → ((e : Entry) → d ≡ Defined e → T (suits (e .instruction) (e .mode)))
+    → reads (act d lines s) m ≡ listedEntry d (s .registers) m
+act-reads (Defined e) lines s m h =
+    ap readsOf (act-accesses (Defined e) lines s m h)
     ∙ reads-in-order (orderOf (e .instruction)) (listed (e .instruction) (e .mode) (s .registers) m) (storedTo (e .instruction) (e .mode) (s .registers) m)
-act-reads Undefined s m h = ap readsOf (act-accesses Undefined s m h)
+act-reads Undefined lines s m h = ap readsOf (act-accesses Undefined lines s m h)
 
-pub step-full-reads : (s : Machine) (m : List ℕ) → reads (stepFull s) m ≡ listedStepFull s m
-unfolding accesses stepFull
-step-full-reads s m =
+-- A line that is served reads the two bytes of its vector.
+attend-reads : (d : Due) (lines : Lines) (s : Machine) (m : List ℕ) → reads (attend d lines s) m ≡ listedDue d (s .registers) m
+unfolding accesses attend
+attend-reads (Through vector) lines s m =
+    ap readsOf (attend-accesses (Through vector) lines s m)
+    ∙ reads-in-order stores-first (listedDue (Through vector) (s .registers) m) (threePushed (s .registers))
+attend-reads Quiet lines s m =
     let opcode = getD m (s .registers .counter) 0 in
-    alike (ReadsFrom m) (ltb highestCount (s .cycles)) _ _ _ _ refl
-    (ap (λ (l : List ℕ). s .registers .counter ∷ l) (act-reads (decoded opcode) s m (entry-suits opcode)))
+    ap (λ (l : List ℕ). s .registers .counter ∷ l) (act-reads (decoded opcode) lines s m (entry-suits opcode))
+
+pub step-full-reads : (lines : Lines) (s : Machine) (m : List ℕ) → reads (stepFull lines s) m ≡ listedStepFull lines s m
+unfolding accesses stepFull
+step-full-reads lines s m = alike (ReadsFrom m) (ltb highestCount (s .cycles)) _ _ _ _ refl (attend-reads (due lines s) lines s m)
 
 -- A step reads the rules' list.
-pub step-reads : (size : ℕ) (s : Machine) (m : List ℕ) → reads (step size s) m ≡ listedStep size s m
+pub step-reads : (size : ℕ) (lines : Lines) (s : Machine) (m : List ℕ) → reads (step size lines s) m ≡ listedStep size lines s m
 unfolding accesses step
-step-reads size s m = alike (ReadsFrom m) (eqb size fullMemory) _ _ _ _ (step-full-reads s m) refl
+step-reads size lines s m = alike (ReadsFrom m) (eqb size fullMemory) _ _ _ _ (step-full-reads lines s m) refl
 
-run-full-reads : (n k : ℕ) (s : Machine) (m : List ℕ) → reads (runFull n k s) m ≡ listedRunFull n s m
+run-full-reads : (n k : ℕ) (lines : Lines) (s : Machine) (m : List ℕ) → reads (runFull n k lines s) m ≡ listedRunFull n lines s m
 unfolding accesses runFull
-run-full-reads zero k s m = refl
-run-full-reads (suc n) k s m =
-    reads-bind (stepFull s) _ m
-    ∙ ap₂ (λ (l t : List ℕ). l ++ t) (step-full-reads s m)
-    (alike (ReadsFrom (exec (stepFull s) m .1)) (isMade (exec (stepFull s) m .0 .reason)) _ _ _ _ (run-full-reads n (k + 1) _ _) refl)
+run-full-reads zero k lines s m = refl
+run-full-reads (suc n) k lines s m =
+    reads-bind (stepFull lines s) _ m
+    ∙ ap₂ (λ (l t : List ℕ). l ++ t) (step-full-reads lines s m)
+    (alike (ReadsFrom (exec (stepFull lines s) m .1)) (isMade (exec (stepFull lines s) m .0 .reason)) _ _ _ _ (run-full-reads n (k + 1) lines _ _) refl)
 
 -- A run reads what the rules list.
-pub run-reads : (size bound : ℕ) (s : Machine) (m : List ℕ) → reads (run size bound s) m ≡ listedRun size bound s m
+pub run-reads : (size bound : ℕ) (lines : Lines) (s : Machine) (m : List ℕ) → reads (run size bound lines s) m ≡ listedRun size bound lines s m
 unfolding accesses run
-run-reads size bound s m =
-    alike (ReadsFrom m) (eqb size fullMemory) _ _ _ _ (alike (ReadsFrom m) (leb bound highestBound) _ _ _ _ (run-full-reads bound 0 s m) refl) refl
+run-reads size bound lines s m =
+    alike (ReadsFrom m) (eqb size fullMemory) _ _ _ _ (alike (ReadsFrom m) (leb bound highestBound) _ _ _ _ (run-full-reads bound 0 lines s m) refl) refl
 
-pub long-run-reads : (size bound : ℕ) (s : Machine) (m : List ℕ) → reads (longRun size bound s) m ≡ listedLongRun size bound s m
+pub long-run-reads : (size bound : ℕ) (lines : Lines) (s : Machine) (m : List ℕ) → reads (longRun size bound lines s) m ≡ listedLongRun size bound lines s m
 unfolding accesses longRun
-long-run-reads size bound s m = alike (ReadsFrom m) (eqb size fullMemory) _ _ _ _ (run-full-reads bound 0 s m) refl
+long-run-reads size bound lines s m = alike (ReadsFrom m) (eqb size fullMemory) _ _ _ _ (run-full-reads bound 0 lines s m) refl

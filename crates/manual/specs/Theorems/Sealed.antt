@@ -1,5 +1,6 @@
--- Demand 3. Two executions start from the same machine (and, for a run, the same bound) on full memories that differ only at sealed
--- addresses. If the first reads no sealed address, then both give the same: reason, step count, registers and cycles. Their memories hold
+-- Demand 3. Two executions start from the same machine, its last level of NMI too, with the same levels of the lines (and, for a run, the
+-- same bound) on full memories that differ only at sealed addresses. If the first reads no sealed address, then both give the same: reason,
+-- step count, registers, cycles and the last level of NMI. Their memories hold
 -- the same bytes elsewhere; a sealed byte that the first stored to is equal in both; any other sealed byte keeps its own starting value.
 -- `Sealed` is any predicate on addresses; what the first reads is the rules' list (ReadList). One induction over programs proves it for all.
 use Prim.Native.Nat.{ℕ, zero, suc}
@@ -8,6 +9,7 @@ use mathlib.Core.Logic.{inl, inr, ⊎-elim}
 use mathlib.Core.List.{List, [], _∷_}
 use native.Mathlib.Omega.{arith}
 use lib.ListN.{getD, set, length, length-set}
+use Rattle.manual.specs.declared.Lines.{Lines}
 use Rattle.manual.specs.declared.Machine.{Machine}
 use Rattle.manual.specs.Micro.{Micro, done, read, write, exec, accesses, reads, stores, Gives}
 use Rattle.manual.specs.declared.Stepped.{Stepped}
@@ -100,34 +102,34 @@ sealed Sealed p m₁ m₂ d u g₁ g₂ =
     )
 
 -- demand 3 of a step
-pub step-sealed : (Sealed : ℕ → Type 0) (s : Machine) (m₁ m₂ : List ℕ) {q₁ q₂ : Stepped} {e₁ e₂ : List ℕ}
+pub step-sealed : (Sealed : ℕ → Type 0) (lines : Lines) (s : Machine) (m₁ m₂ : List ℕ) {q₁ q₂ : Stepped} {e₁ e₂ : List ℕ}
     → Differ Sealed m₁ m₂
-    → Unsealed Sealed (listedStep (length m₁) s m₁)
-    → Gives (step (length m₁) s) m₁ q₁ e₁
-    → Gives (step (length m₂) s) m₂ q₂ e₂
-    → (q₁ ≡ q₂) × Kept Sealed (stores (step (length m₁) s) m₁) m₁ m₂ e₁ e₂
-step-sealed Sealed s m₁ m₂ {q₂ = q₂} {e₂ = e₂} d u g₁ g₂ =
-    sealed Sealed (step (length m₁) s) m₁ m₂ d (subst (Unsealed Sealed) (sym (step-reads (length m₁) s m₁)) u) g₁
-    (subst (λ (n : ℕ). Gives (step n s) m₂ q₂ e₂) (d .full₂ ∙ sym (d .full₁)) g₂)
+    → Unsealed Sealed (listedStep (length m₁) lines s m₁)
+    → Gives (step (length m₁) lines s) m₁ q₁ e₁
+    → Gives (step (length m₂) lines s) m₂ q₂ e₂
+    → (q₁ ≡ q₂) × Kept Sealed (stores (step (length m₁) lines s) m₁) m₁ m₂ e₁ e₂
+step-sealed Sealed lines s m₁ m₂ {q₂ = q₂} {e₂ = e₂} d u g₁ g₂ =
+    sealed Sealed (step (length m₁) lines s) m₁ m₂ d (subst (Unsealed Sealed) (sym (step-reads (length m₁) lines s m₁)) u) g₁
+    (subst (λ (n : ℕ). Gives (step n lines s) m₂ q₂ e₂) (d .full₂ ∙ sym (d .full₁)) g₂)
 
 -- demand 3 of a bounded run
-pub run-sealed : (Sealed : ℕ → Type 0) (bound : ℕ) (s : Machine) (m₁ m₂ : List ℕ) {q₁ q₂ : Ended} {e₁ e₂ : List ℕ}
+pub run-sealed : (Sealed : ℕ → Type 0) (bound : ℕ) (lines : Lines) (s : Machine) (m₁ m₂ : List ℕ) {q₁ q₂ : Ended} {e₁ e₂ : List ℕ}
     → Differ Sealed m₁ m₂
-    → Unsealed Sealed (listedRun (length m₁) bound s m₁)
-    → Gives (run (length m₁) bound s) m₁ q₁ e₁
-    → Gives (run (length m₂) bound s) m₂ q₂ e₂
-    → (q₁ ≡ q₂) × Kept Sealed (stores (run (length m₁) bound s) m₁) m₁ m₂ e₁ e₂
-run-sealed Sealed bound s m₁ m₂ {q₂ = q₂} {e₂ = e₂} d u g₁ g₂ =
-    sealed Sealed (run (length m₁) bound s) m₁ m₂ d (subst (Unsealed Sealed) (sym (run-reads (length m₁) bound s m₁)) u) g₁
-    (subst (λ (n : ℕ). Gives (run n bound s) m₂ q₂ e₂) (d .full₂ ∙ sym (d .full₁)) g₂)
+    → Unsealed Sealed (listedRun (length m₁) bound lines s m₁)
+    → Gives (run (length m₁) bound lines s) m₁ q₁ e₁
+    → Gives (run (length m₂) bound lines s) m₂ q₂ e₂
+    → (q₁ ≡ q₂) × Kept Sealed (stores (run (length m₁) bound lines s) m₁) m₁ m₂ e₁ e₂
+run-sealed Sealed bound lines s m₁ m₂ {q₂ = q₂} {e₂ = e₂} d u g₁ g₂ =
+    sealed Sealed (run (length m₁) bound lines s) m₁ m₂ d (subst (Unsealed Sealed) (sym (run-reads (length m₁) bound lines s m₁)) u) g₁
+    (subst (λ (n : ℕ). Gives (run n bound lines s) m₂ q₂ e₂) (d .full₂ ∙ sym (d .full₁)) g₂)
 
 -- demand 3 of a run of any number of steps
-pub long-run-sealed : (Sealed : ℕ → Type 0) (bound : ℕ) (s : Machine) (m₁ m₂ : List ℕ) {q₁ q₂ : Ended} {e₁ e₂ : List ℕ}
+pub long-run-sealed : (Sealed : ℕ → Type 0) (bound : ℕ) (lines : Lines) (s : Machine) (m₁ m₂ : List ℕ) {q₁ q₂ : Ended} {e₁ e₂ : List ℕ}
     → Differ Sealed m₁ m₂
-    → Unsealed Sealed (listedLongRun (length m₁) bound s m₁)
-    → Gives (longRun (length m₁) bound s) m₁ q₁ e₁
-    → Gives (longRun (length m₂) bound s) m₂ q₂ e₂
-    → (q₁ ≡ q₂) × Kept Sealed (stores (longRun (length m₁) bound s) m₁) m₁ m₂ e₁ e₂
-long-run-sealed Sealed bound s m₁ m₂ {q₂ = q₂} {e₂ = e₂} d u g₁ g₂ =
-    sealed Sealed (longRun (length m₁) bound s) m₁ m₂ d (subst (Unsealed Sealed) (sym (long-run-reads (length m₁) bound s m₁)) u) g₁
-    (subst (λ (n : ℕ). Gives (longRun n bound s) m₂ q₂ e₂) (d .full₂ ∙ sym (d .full₁)) g₂)
+    → Unsealed Sealed (listedLongRun (length m₁) bound lines s m₁)
+    → Gives (longRun (length m₁) bound lines s) m₁ q₁ e₁
+    → Gives (longRun (length m₂) bound lines s) m₂ q₂ e₂
+    → (q₁ ≡ q₂) × Kept Sealed (stores (longRun (length m₁) bound lines s) m₁) m₁ m₂ e₁ e₂
+long-run-sealed Sealed bound lines s m₁ m₂ {q₂ = q₂} {e₂ = e₂} d u g₁ g₂ =
+    sealed Sealed (longRun (length m₁) bound lines s) m₁ m₂ d (subst (Unsealed Sealed) (sym (long-run-reads (length m₁) bound lines s m₁)) u) g₁
+    (subst (λ (n : ℕ). Gives (longRun n bound lines s) m₂ q₂ e₂) (d .full₂ ∙ sym (d .full₁)) g₂)

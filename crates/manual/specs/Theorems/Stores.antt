@@ -14,43 +14,58 @@ use Rattle.instruction.specs.declared.Decoded.{Decoded}
 use Rattle.instruction.specs.declared.Decoded.the-variants.{Defined, Undefined}
 use Rattle.instruction.specs.Modes.{operandBytes}
 use Rattle.instruction.specs.Opcodes.{decoded}
+use Rattle.manual.specs.declared.Lines.{Lines}
 use Rattle.manual.specs.declared.Machine.{Machine}
+use Rattle.manual.specs.declared.Due.{Due}
+use Rattle.manual.specs.declared.Due.the-variants.{Through, Quiet}
 use Rattle.manual.specs.Micro.{Micro, accesses, storesOf, stores}
-use Rattle.manual.specs.Stepping.{fullMemory, highestCount, act, stepFull, step}
-use Rattle.manual.specs.ReadList.{listed}
+use Rattle.manual.specs.Interrupts.{due}
+use Rattle.manual.specs.Stepping.{fullMemory, highestCount, act, attend, stepFull, step}
+use Rattle.manual.specs.ReadList.{listed, listedDue}
 use Rattle.manual.specs.Theorems.Programs.{alike, either}
-use Rattle.manual.specs.Theorems.Accesses.{storedTo, orderOf, suits, entry-suits, act-accesses, stores-in-order}
+use Rattle.manual.specs.Theorems.Accesses.{threePushed, storedTo, orderOf, stores-first, suits, entry-suits, act-accesses, attend-accesses, stores-in-order}
 use Rattle.manual.specs.Theorems.FewReads.{Few}
 
 abbrev pub storedByEntry : Decoded → Registers → List ℕ → List ℕ
 storedByEntry (Defined e) r m = storedTo (e .instruction) (e .mode) r m
 storedByEntry Undefined r m = []
 
+-- a line that is served pushes three bytes
+abbrev pub storedByDue : Due → Registers → List ℕ → List ℕ
+storedByDue (Through vector) r m = threePushed r
+storedByDue Quiet r m = storedByEntry (decoded (getD m (r .counter) 0)) r m
+
 -- a refused step stores nothing
-abbrev pub storedByStep : ℕ → Machine → List ℕ → List ℕ
-storedByStep size s m =
-    cond (eqb size fullMemory)
-    (cond (ltb highestCount (s .cycles)) [] (storedByEntry (decoded (getD m (s .registers .counter) 0)) (s .registers) m))
-    []
+abbrev pub storedByStep : ℕ → Lines → Machine → List ℕ → List ℕ
+storedByStep size lines s m =
+    cond (eqb size fullMemory) (cond (ltb highestCount (s .cycles)) [] (storedByDue (due lines s) (s .registers) m)) []
 
 -- the program p stores to l
 abbrev StoresTo : {A : Type 0} → List ℕ → Micro A → List ℕ → Type 0
 StoresTo m p l = stores p m ≡ l
 
-act-stores : (d : Decoded) (s : Machine) (m : List ℕ) → ((e : Entry) → d ≡ Defined e → T (suits (e .instruction) (e .mode)))
-    → stores (act d s) m ≡ storedByEntry d (s .registers) m
-act-stores (Defined e) s m h =
-    ap storesOf (act-accesses (Defined e) s m h)
+act-stores : (d : Decoded) (lines : Lines) (s : Machine) (m : List ℕ) → ((e : Entry) → d ≡ Defined e → T (suits (e .instruction) (e .mode)))
+    → stores (act d lines s) m ≡ storedByEntry d (s .registers) m
+act-stores (Defined e) lines s m h =
+    ap storesOf (act-accesses (Defined e) lines s m h)
     ∙ stores-in-order (orderOf (e .instruction)) (listed (e .instruction) (e .mode) (s .registers) m) (storedTo (e .instruction) (e .mode) (s .registers) m)
-act-stores Undefined s m h = ap storesOf (act-accesses Undefined s m h)
+act-stores Undefined lines s m h = ap storesOf (act-accesses Undefined lines s m h)
+
+attend-stores : (d : Due) (lines : Lines) (s : Machine) (m : List ℕ) → stores (attend d lines s) m ≡ storedByDue d (s .registers) m
+unfolding accesses attend
+attend-stores (Through vector) lines s m =
+    ap storesOf (attend-accesses (Through vector) lines s m)
+    ∙ stores-in-order stores-first (listedDue (Through vector) (s .registers) m) (threePushed (s .registers))
+attend-stores Quiet lines s m =
+    let opcode = getD m (s .registers .counter) 0 in
+    act-stores (decoded opcode) lines s m (entry-suits opcode)
 
 -- A step stores to exactly these addresses, in this order.
-pub step-stores : (size : ℕ) (s : Machine) (m : List ℕ) → stores (step size s) m ≡ storedByStep size s m
+pub step-stores : (size : ℕ) (lines : Lines) (s : Machine) (m : List ℕ) → stores (step size lines s) m ≡ storedByStep size lines s m
 unfolding accesses step stepFull
-step-stores size s m =
-    let opcode = getD m (s .registers .counter) 0 in
+step-stores size lines s m =
     alike (StoresTo m) (eqb size fullMemory) _ _ _ _
-    (alike (StoresTo m) (ltb highestCount (s .cycles)) _ _ _ _ refl (act-stores (decoded opcode) s m (entry-suits opcode)))
+    (alike (StoresTo m) (ltb highestCount (s .cycles)) _ _ _ _ refl (attend-stores (due lines s) lines s m))
     refl
 
 -- ---- at most three
@@ -75,10 +90,14 @@ few-by-entry : (d : Decoded) (r : Registers) (m : List ℕ) → length (storedBy
 few-by-entry (Defined e) r m = few-stored (e .instruction) (e .mode) r m
 few-by-entry Undefined r m = lit≤ tt
 
+few-by-due : (d : Due) (r : Registers) (m : List ℕ) → length (storedByDue d r m) ≤ 3
+few-by-due (Through vector) r m = lit≤ tt
+few-by-due Quiet r m = few-by-entry (decoded (getD m (r .counter) 0)) r m
+
 -- A step stores at most three bytes.
-pub at-most-three-stores : (size : ℕ) (s : Machine) (m : List ℕ) → length (stores (step size s) m) ≤ 3
-at-most-three-stores size s m =
-    rw (step-stores size s m)
+pub at-most-three-stores : (size : ℕ) (lines : Lines) (s : Machine) (m : List ℕ) → length (stores (step size lines s) m) ≤ 3
+at-most-three-stores size lines s m =
+    rw (step-stores size lines s m)
     (either (Few 3) (eqb size fullMemory) _ _
-    (either (Few 3) (ltb highestCount (s .cycles)) _ _ (lit≤ tt) (few-by-entry (decoded (getD m (s .registers .counter) 0)) (s .registers) m))
+    (either (Few 3) (ltb highestCount (s .cycles)) _ _ (lit≤ tt) (few-by-due (due lines s) (s .registers) m))
     (lit≤ tt))

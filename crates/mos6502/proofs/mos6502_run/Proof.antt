@@ -5,15 +5,15 @@ use Rattle.mos6502.proofs.mos6502_run.Statement.{statement}
 use Rattle.mos6502.proofs.mos6502_run.Tie as tie
 
 returns : tie.Need-returns
-returns c = run-short-memory _ _ _ _ _ (c .if1 .taken)
+returns c = run-short-memory _ _ _ _ _ _ (c .if1 .taken)
 
 returns-2 : tie.Need-returns-2
-returns-2 c = run-long-bound _ _ _ _ _ (c .before .if1 .left) (c .if2 .taken)
+returns-2 c = run-long-bound _ _ _ _ _ _ (c .before .if1 .left) (c .if2 .taken)
 
 returns-3 : tie.Need-returns-3
 returns-3 c =
     let c₈ = c .before .before .before .before .before .before .before .before in
-    run-on-full _ _ _ _ _ (c₈ .before .if1 .left) (c₈ .if2 .left) (c .before .before .advance .ensures)
+    run-on-full _ _ _ _ _ _ (c₈ .before .if1 .left) (c₈ .if2 .left) (c .before .before .advance .ensures)
 
 pub mos6502-run-spec : {M : Type 1} → statement M
 mos6502-run-spec = tie.close (tie.spec returns returns-2 (search needs) (search needs) returns-3)

@@ -5,12 +5,12 @@ use Rattle.mos6502.proofs.mos6502_step.Statement.{statement}
 use Rattle.mos6502.proofs.mos6502_step.Tie as tie
 
 returns : tie.Need-returns
-returns c = step-short-memory _ _ _ _ (c .if1 .taken)
+returns c = step-short-memory _ _ _ _ _ (c .if1 .taken)
 
 returns-2 : tie.Need-returns-2
 returns-2 c =
     let c₈ = c .before .before .before .before .before .before .before .before in
-    step-on-full _ _ _ _ (c₈ .if1 .left) (c .before .before .advance .ensures)
+    step-on-full _ _ _ _ _ (c₈ .if1 .left) (c .before .before .advance .ensures)
 
 pub mos6502-step-spec : {M : Type 1} → statement M
 mos6502-step-spec = tie.close (tie.spec returns (search needs) (search needs) returns-2)

@@ -6,7 +6,7 @@ use Rattle.packing.proofs.pack.Tie as tie
 
 returns : tie.Need-returns
 unfolding packed
-returns c = rw (c .before .pushed .ensures)
+returns c = rw (c .flag .ensures .0, c .before .before .pushed .ensures)
 
 pub pack-spec : {M : Type 1} → statement M
-pack-spec = tie.close (tie.spec (search needs) (search needs) (search needs) (search needs) (search needs) (search needs) (search needs) (search needs) (search needs) (search needs) (search needs) (search needs) (search needs) (search needs) (search needs) (search needs) (search needs) returns)
+pack-spec = tie.close (tie.spec (search needs) (search needs) (search needs) (search needs) (search needs) (search needs) (search needs) (search needs) (search needs) (search needs) (search needs) (search needs) (search needs) (search needs) (search needs) (search needs) (search needs) (search needs) (search needs) (search needs) (search needs) returns)

@@ -28,37 +28,38 @@ written c = read-back (c .put-instruction .ensures) (short c)
 sub-cycles : tie.Need-sub-cycles
 sub-cycles c =
     let c₆ = c .before .before .before .before .before .before in
-    let s = c₆ .before .before .before .before .before .before .before .before in
-    not-back _ _ (rw (step-whole _ _ (s .pre)) at (c₆ .single-step .ensures))
+    let s = c₆ .before .before .before .before .before .before .before .before .before in
+    not-back _ _ (rw (c₆ .before .before .idle .ensures) at (rw (step-whole _ _ _ (s .pre)) at (c₆ .single-step .ensures)))
 
 array-share-prefix-instruction : tie.Need-array-share-prefix-instruction
 array-share-prefix-instruction c =
-    let c₁₀ = c .before .before .before .before .before .before .before .before .before .before in
-    omega (arith, written c₁₀ .0, short c₁₀, c₁₀ .put-instruction .kept .0)
+    let c₁₁ = c .before .before .before .before .before .before .before .before .before .before .before in
+    omega (arith, written c₁₁ .0, short c₁₁, c₁₁ .put-instruction .kept .0)
 
 slice-aggregate-put-line : tie.Need-slice-aggregate-put-line
 slice-aggregate-put-line c =
-    let c₁₁ = c .before .before .before .before .before .before .before .before .before .before .before in
-    sym (length-take-le _ _ (omega (arith, written c₁₁ .0, short c₁₁, c₁₁ .put-instruction .kept .0)))
+    let c₁₂ = c .before .before .before .before .before .before .before .before .before .before .before .before in
+    sym (length-take-le _ _ (omega (arith, written c₁₂ .0, short c₁₂, c₁₂ .put-instruction .kept .0)))
 
 returns : tie.Need-returns
 returns c =
     let c₇ = c .before .before .before .before .before .before .before in
     let c₈ = c₇ .before in
     let c₁₁ = c₈ .before .before .before in
-    let s = c₁₁ .before .before .before .before .before .before .before .before in
-    let line = rw (written (c₁₁ .before .before .before) .1) at (c .before .before .put-line .ensures) in (
-      rw (step-whole _ _ (s .pre)) at (c₁₁ .single-step .ensures),
-      (rw (shown-made _ _ (c₁₁ .single-step .result) (sym (c₈ .is-made .ensures) ∙ c₇ .if1 .taken)) (line .0), omega (arith, line .1, short (c₁₁ .before .before .before))),
+    let c₁₅ = c₁₁ .before .before .before .before in
+    let s = c₁₅ .before .before .before .before .before in
+    let line = rw (written c₁₅ .1) at (c .before .before .put-line .ensures) in (
+      rw (c₁₁ .before .before .idle .ensures) at (rw (step-whole _ _ _ (s .pre)) at (c₁₁ .single-step .ensures)),
+      (rw (shown-made _ _ (c₁₁ .single-step .result) (sym (c₈ .is-made .ensures) ∙ c₇ .if1 .taken)) (line .0), omega (arith, line .1, short c₁₅)),
     )
 
 returns-2 : tie.Need-returns-2
 returns-2 c =
     let c₄ = c .before .before .before .before in
-    let s = c₄ .before .before .before .before .before .before .before .before in (
-      rw (step-whole _ _ (s .pre)) at (c₄ .single-step .ensures),
+    let s = c₄ .before .before .before .before .before .before .before .before .before in (
+      rw (c₄ .before .before .idle .ensures) at (rw (step-whole _ _ _ (s .pre)) at (c₄ .single-step .ensures)),
       (rw (shown-refused _ _ (c₄ .single-step .result) (sym (c .before .is-made .ensures) ∙ c .if1 .left)) (nothing (omega arith) (omega arith)), omega arith),
     )
 
 pub put-step-spec : {M : Type 1} → statement M
-put-step-spec = tie.close (tie.spec (search needs) (search needs) (search needs) (search needs) sub-cycles array-share-prefix-instruction slice-aggregate-put-line (search needs) (search needs) (search needs) returns (search needs) returns-2)
+put-step-spec = tie.close (tie.spec (search needs) (search needs) (search needs) (search needs) (search needs) sub-cycles array-share-prefix-instruction slice-aggregate-put-line (search needs) (search needs) (search needs) returns (search needs) returns-2)

@@ -8,6 +8,7 @@ use denote.Ref.{now}
 use lib.ListN.{length}
 use Rattle.manual.specs.Micro.{exec}
 use Rattle.manual.specs.Outcomes.{isMade}
+use Rattle.manual.specs.Interrupts.{idle}
 use Rattle.manual.specs.Stepping.{fullMemory, runFull}
 use Rattle.manual.specs.Theorems.StepLaws.{long-short, long-whole}
 use Rattle.text.specs.Written.{most}
@@ -26,7 +27,7 @@ Inv-loop out₀ bound memory₀ left₀ steps₀ next₀ out memory left steps n
     × (next ≤ most)
     × (next ≤ 52 * steps)
     × Left out next (fullTimetable (bound - steps) left memory) out₀ 0 (fullTimetable bound left₀ memory₀)
-    × (exec (runFull bound 0 left₀) memory₀ ≡ exec (runFull (bound - steps) steps left) memory)
+    × (exec (runFull bound 0 idle left₀) memory₀ ≡ exec (runFull (bound - steps) steps idle left) memory)
 
 abbrev μ-loop : tie.MeasureT-loop
 μ-loop out₀ bound memory₀ left₀ steps₀ next₀ out memory left steps next = bound - steps
@@ -34,7 +35,7 @@ abbrev μ-loop : tie.MeasureT-loop
 returns : tie.Need-returns Inv-loop μ-loop
 returns c =
     let s = c .before .before .before .before in (
-      long-short _ _ _ _ (c .before .if1 .taken) ∙ rw (c .new .ensures),
+      long-short _ _ _ _ _ (c .before .if1 .taken) ∙ rw (c .new .ensures),
       (rw (not-on-full _ _ _ (c .before .if1 .taken)) (nothing (omega (arith, s)) (omega arith)), omega arith),
     )
 
@@ -89,7 +90,7 @@ returns-2 c =
     let step = c₉ .put-step .ensures in
     let full = c₁₂ .before .before .if1 .left in
     let refused : isMade (c₉ .put-step .result .stepped .reason) ≡ false = sym (c .before .before .is-made .ensures) ∙ c .before .if2 .left in (
-      rw (long-whole _ _ _ full) (h .6 ∙ run-refused _ _ _ _ (step .0) _ _ (c₁₂ .loop-test .taken) refused ∙ rw (c .new2 .ensures)),
+      rw (long-whole _ _ _ _ full) (h .6 ∙ run-refused _ _ _ _ (step .0) _ _ (c₁₂ .loop-test .taken) refused ∙ rw (c .new2 .ensures)),
       (
         rw (on-full _ _ _ full) (none-left (less-left (h .5) (no-line _ _ _ _ (step .0) _ _ (c₁₂ .loop-test .taken) refused) (step .1 .0)) refl (omega arith) (omega (arith, step .1 .0 .ends))),
         omega (arith, step .1 .1, h .4, c₁₂ .loop-test .taken),
@@ -108,7 +109,7 @@ returns-3 c =
     let h = c₂ .loop .inv in
     let full = c₂ .before .if1 .left in
     let all = c .before .loop-test .left in (
-      rw (long-whole _ _ _ full) (h .6 ∙ no-more-steps _ _ _ _ all ∙ rw (c .new3 .ensures)),
+      rw (long-whole _ _ _ _ full) (h .6 ∙ no-more-steps _ _ _ _ all ∙ rw (c .new3 .ensures)),
       (rw (on-full _ _ _ full) (none-left (h .5) (no-steps _ _ _ _ all) (omega (arith, h .0)) (h .3)), omega (arith, h .4, h .2)),
     )
 

@@ -11,7 +11,8 @@ returns c =
     let c₄ = c .before .before .before .before in
     let c₇ = c₄ .before .before .before in
     rw (
-      ← c₇ .before .before .machine-at .ensures,
+      ← c₇ .before .before .before .machine-at .ensures,
+      ← c₇ .before .before .idle .ensures,
       c₇ .single-step .ensures,
       ← c₄ .is-made .ensures,
       c .before .before .before .if1 .taken,
@@ -23,7 +24,7 @@ returns-2 : tie.Need-returns-2
 unfolding judged
 returns-2 c =
     let c₄ = c .before .before .before .before in
-    rw (← c₄ .before .before .machine-at .ensures, c₄ .single-step .ensures, ← c .before .is-made .ensures, c .if1 .left)
+    rw (← c₄ .before .before .before .machine-at .ensures, ← c₄ .before .before .idle .ensures, c₄ .single-step .ensures, ← c .before .is-made .ensures, c .if1 .left)
 
 pub judge-spec : {M : Type 1} → statement M
-judge-spec = tie.close (tie.spec (search needs) (search needs) (search needs) (search needs) (search needs) (search needs) returns (search needs) returns-2)
+judge-spec = tie.close (tie.spec (search needs) (search needs) (search needs) (search needs) (search needs) (search needs) (search needs) returns (search needs) returns-2)
