@@ -2,6 +2,7 @@
 
 mod pair;
 mod parts;
+mod served;
 mod shrink;
 mod states;
 
@@ -15,14 +16,17 @@ use oracle::rules;
 
 use oracle::options::Options;
 use pair::{Fault, Firsts, Pair, Plant};
+use served::Calls;
 
 const USAGE: &str = "usage: host/compare [--native] [--seed N] [--steps N] \
-                     [--plant | --plant-first | --plant-call] [ARCHIVE]";
+                     [--plant | --plant-first | --plant-call | --plant-break | --plant-level] [ARCHIVE]";
 /// The marks for the planted faults.
-const PLANTS: [(&str, Plant); 3] = [
+const PLANTS: [(&str, Plant); 5] = [
     ("--plant", Plant::Store),
     ("--plant-first", Plant::First),
     ("--plant-call", Plant::Call),
+    ("--plant-break", Plant::Break),
+    ("--plant-level", Plant::Level),
 ];
 /// The line of progress is renewed after so many steps.
 const STRIDE: u64 = 250_000;
@@ -32,6 +36,24 @@ fn tell(line: &str) {
     if std::io::stderr().is_terminal() {
         eprint!("\r{line}\x1b[K");
     }
+}
+
+fn tell_now_and_then(part: &str, steps: u64, told: &mut u64) {
+    if steps - *told >= STRIDE {
+        *told = steps;
+        tell(&format!("compare: {part}, {steps} steps so far"));
+    }
+}
+
+/// A sentence for what is listed, and the counts by opcode.
+fn print_listed(sentence: &str, counts: &[u64; 256]) {
+    let by_opcode = (0..=0xFF_u8).zip(counts);
+    let by_opcode = by_opcode.filter(|(_, count)| **count > 0);
+    let by_opcode: Vec<String> = by_opcode
+        .map(|(opcode, count)| format!("{opcode:02X} {count}"))
+        .collect();
+    println!("listed: {sentence}");
+    println!("  by opcode: {}", by_opcode.join(", "));
 }
 
 /// The steps of a part and how many of them differ, by what is listed.
@@ -52,10 +74,36 @@ impl Row {
     }
 }
 
+/// The port's steps of a part with lines, by what they were: an opcode, a line, a refusal.
+struct LineRow {
+    name: &'static str,
+    counts: [u64; 5],
+}
+
+impl LineRow {
+    const HEADS: [&'static str; 6] = [
+        "steps",
+        "opcodes",
+        "NMI served",
+        "IRQ served",
+        "refused, 2",
+        "refused, 3",
+    ];
+
+    fn print(&self) {
+        let all = self.counts.iter().sum::<u64>();
+        let counts = self.counts.map(|count| format!("{count:12}"));
+        println!("{:26}{all:10}{}", self.name, counts.concat());
+    }
+}
+
 struct Comparison {
     random: Random,
     pair: Pair,
     rows: Vec<Row>,
+    /// The parts with lines have their own.
+    lines: Pair,
+    line_rows: Vec<LineRow>,
     told: u64,
 }
 
@@ -85,10 +133,7 @@ impl Comparison {
         let before = self.row(name, None);
         let told = &mut self.told;
         part(&mut self.pair, &mut self.random, &mut |steps| {
-            if steps - *told >= STRIDE {
-                *told = steps;
-                tell(&format!("compare: {}, {steps} steps so far", name.trim()));
-            }
+            tell_now_and_then(name.trim(), steps, told);
         })?;
         self.rows.push(self.row(name, Some(&before)));
         Ok(())
@@ -103,7 +148,38 @@ impl Comparison {
         self.part("all sums", |pair, random, _| parts::all_sums(pair, random))?;
         self.part("long runs", |pair, random, mut progress| {
             parts::long_runs(pair, random, steps.div_ceil(4), &mut progress)
+        })?;
+        self.told = 0;
+        self.part_with_lines("the same call", |pair, random, mut progress| {
+            parts::same_calls(pair, random, steps.div_ceil(20_000), &mut progress)
+        })?;
+        self.part_with_lines("runs, a step later", |pair, random, mut progress| {
+            parts::runs_with_lines(pair, random, steps.div_ceil(20), &mut progress)
         })
+    }
+
+    /// What was made with lines so far.
+    fn counts_with_lines(&self) -> [u64; 5] {
+        let Pair { steps, calls, .. } = &self.lines;
+        [*steps, calls.nmi, calls.irq, calls.no_room, calls.no_opcode]
+    }
+
+    fn part_with_lines(
+        &mut self,
+        name: &'static str,
+        part: impl FnOnce(&mut Pair, &mut Random, &mut dyn FnMut(u64)) -> Result<(), Fault>,
+    ) -> Result<(), Fault> {
+        let before = self.counts_with_lines();
+        let told = &mut self.told;
+        part(&mut self.lines, &mut self.random, &mut |steps| {
+            tell_now_and_then(&format!("with lines, {name}"), steps, told);
+        })?;
+        let mut counts = self.counts_with_lines();
+        for (count, before) in counts.iter_mut().zip(before) {
+            *count -= before;
+        }
+        self.line_rows.push(LineRow { name, counts });
+        Ok(())
     }
 
     /// A row for all of them, then one for each class.
@@ -138,13 +214,7 @@ impl Comparison {
             fewest.min().unwrap_or(0)
         );
         for ((_, sentence), counts) in known::ALL.iter().zip(self.pair.listed) {
-            let by_opcode = (0..=0xFF_u8).zip(counts);
-            let by_opcode = by_opcode.filter(|(_, count)| *count > 0);
-            let by_opcode: Vec<String> = by_opcode
-                .map(|(opcode, count)| format!("{opcode:02X} {count}"))
-                .collect();
-            println!("listed: {sentence}");
-            println!("  by opcode: {}", by_opcode.join(", "));
+            print_listed(sentence, &counts);
         }
         println!(
             "the Rust's {} reads and {} stores are those of docs/RULES.md, in its order but for JSR's last operand byte",
@@ -158,6 +228,49 @@ impl Comparison {
         println!(
             "the address put out first is that of docs/RULES.md: \
              not the final one at {uncarried} steps, the final one at {last}, none at {none}"
+        );
+        self.summary_with_lines();
+    }
+
+    fn summary_with_lines(&self) {
+        let [steps, heads @ ..] = LineRow::HEADS;
+        let heads = heads.map(|head| format!("{head:>12}"));
+        println!("{:26}{steps:>10}{}", "with lines", heads.concat());
+        self.line_rows.iter().for_each(LineRow::print);
+        let counts = self.counts_with_lines();
+        LineRow {
+            name: "all with lines",
+            counts,
+        }
+        .print();
+        let Calls {
+            in_both,
+            by_levels,
+            by_the_rust,
+            alike,
+            cleared,
+            set,
+            ..
+        } = &self.lines.calls;
+        println!(
+            "{in_both} calls were made in both cores; each of the 16 combinations of IRQ, NMI, its last level and I \
+             came at least {} times",
+            by_levels.iter().min().unwrap_or(&0)
+        );
+        println!(
+            "listed: the Rust serves a line after the instruction, in the same call and in no cycles: {by_the_rust} calls; \
+             the port before the opcode, in a step by itself and 7 cycles"
+        );
+        print_listed(
+            "an instruction clears I while IRQ is low: the Rust serves it one instruction later, the port at once",
+            cleared,
+        );
+        print_listed(
+            "an instruction sets I while IRQ is low: the Rust serves it even so, the port does not",
+            set,
+        );
+        println!(
+            "after {alike} instructions both served the same line, or neither did, and ended alike but for the 7 cycles"
         );
     }
 }
@@ -180,11 +293,13 @@ fn main() -> ExitCode {
         planted.map_or("", |_| ", with a planted fault")
     );
     let mut random = Random::new(seed);
-    let pair = Pair::new(random.memory(), plant);
+    let memory = random.memory();
     let mut comparison = Comparison {
         random,
-        pair,
+        pair: Pair::new(memory.clone(), plant),
         rows: Vec::new(),
+        lines: Pair::new(memory, plant),
+        line_rows: Vec::new(),
         told: 0,
     };
     let result = comparison.all(steps);
@@ -196,14 +311,16 @@ fn main() -> ExitCode {
         }
         Err(fault) => {
             let fault = shrink::shrunk(fault, plant);
+            let with_lines: u64 = comparison.counts_with_lines().iter().sum();
             println!(
                 "the cores differ at step {} in {}",
-                comparison.pair.steps, fault.what
+                comparison.pair.steps + with_lines,
+                fault.what
             );
             if let Some(case) = fault.case {
                 println!("smallest input: {case}");
                 println!(
-                    "  opcode, counter, A, X, Y, S, status, cycles | byte@address, all other bytes 0"
+                    "  opcode, counter, A, X, Y, S, status, cycles | byte@address, all other bytes 0 | lines, if not idle"
                 );
             }
             ExitCode::FAILURE

@@ -3,11 +3,13 @@
 use oracle::addresses::Aim;
 use oracle::case::Case;
 use oracle::core::{Access, Core};
+use oracle::interrupts;
 use oracle::known;
 use oracle::rules;
-use oracle::state::{State, byte_difference, difference};
-use saxundeer::StepAnswer;
+use oracle::state::{Names, RUST_AND_PORT, State, byte_difference, difference};
+use saxundeer::{Level, Lines, Machine, StepAnswer};
 
+use crate::served::Calls;
 use crate::states::{machine_of, state_of};
 
 /// The port's stores cannot be seen, so that after so many steps all 65,536 bytes are compared.
@@ -29,6 +31,10 @@ pub enum Plant {
     First,
     /// JSR reads its high operand byte before the pushes, as the Rust does.
     Call,
+    /// The status that is pushed for a line has bit 4 set, as BRK's has.
+    Break,
+    /// A step does not record the level of NMI.
+    Level,
 }
 
 /// The steps by what their address put out first is.
@@ -47,7 +53,7 @@ pub struct Pair {
     pub memory: Vec<u8>,
     plant: Plant,
     /// The cases since all bytes were compared.
-    window: Vec<Case>,
+    pub(crate) window: Vec<Case>,
     expected: Vec<Access>,
     pub steps: u64,
     /// The steps by opcode.
@@ -57,6 +63,28 @@ pub struct Pair {
     pub firsts: Firsts,
     pub reads: u64,
     pub stores: u64,
+    /// What was compared with lines.
+    pub calls: Calls,
+}
+
+fn level_of(level: interrupts::Level) -> Level {
+    match level {
+        interrupts::Level::High => Level::High,
+        interrupts::Level::Low => Level::Low,
+    }
+}
+
+/// What the port is given: the machine with the last level, and the present ones.
+pub fn given(state: &State, lines: interrupts::Lines) -> (Machine, Lines) {
+    let machine = Machine {
+        last_nmi: level_of(lines.last_nmi),
+        ..machine_of(state)
+    };
+    let lines = Lines {
+        irq: level_of(lines.irq),
+        nmi: level_of(lines.nmi),
+    };
+    (machine, lines)
 }
 
 impl Pair {
@@ -73,6 +101,7 @@ impl Pair {
             firsts: Firsts::default(),
             reads: 0,
             stores: 0,
+            calls: Calls::default(),
         }
     }
 
@@ -83,24 +112,48 @@ impl Pair {
 
     /// The step of a case, on whatever else stands in memory.
     pub fn step_case(&mut self, case: &Case) -> Result<State, Fault> {
+        self.put_all(case);
+        self.step(&case.state, case.lines)
+    }
+
+    pub fn put_all(&mut self, case: &Case) {
         for (address, byte) in &case.bytes {
             self.put(*address, *byte);
         }
-        self.step(&case.state)
     }
 
-    /// One step of both, and the state after it by the rules. The byte at the counter must be one of the 151.
-    pub fn step(&mut self, before: &State) -> Result<State, Fault> {
+    /// The port's step, with the planted fault in what it gives where it is made.
+    pub(crate) fn port_step(
+        &mut self,
+        before: &State,
+        lines: interrupts::Lines,
+        spoil: impl FnOnce(&mut Pair, &mut Machine, &mut u16),
+    ) -> StepAnswer {
+        let (machine, levels) = given(before, lines);
+        let mut answer = saxundeer::single_step(machine, levels, &mut self.memory);
+        if let StepAnswer::Made { machine, first } = &mut answer {
+            if self.plant == Plant::Level {
+                machine.last_nmi = level_of(lines.last_nmi);
+            }
+            spoil(self, machine, first);
+        }
+        answer
+    }
+
+    /// One step of both with these lines, none of which is due, and the state after it by the rules. The byte at the counter
+    /// must be one of the 151.
+    pub fn step(&mut self, before: &State, lines: interrupts::Lines) -> Result<State, Fault> {
         let opcode = self.memory[usize::from(before.counter)];
         let entry = rules::entry(opcode).expect("a case of no opcode");
         let byte = |address| self.memory[usize::from(address)];
         entry.accesses(before, byte, &mut self.expected);
         let aim = entry.aim(before, byte);
-        let case = Case::of_memory(*before, &self.expected, &self.memory);
+        let case = Case::of_memory(*before, lines, &self.expected, &self.memory);
         known::in_the_rusts_order(&case, &mut self.expected);
-        let rust = self.rust.step(before);
-        let mut answer = saxundeer::single_step(machine_of(before), &mut self.memory);
-        self.spoil(&case, aim.as_ref(), &mut answer);
+        let rust = self.rust.step_with(before, lines);
+        let answer = self.port_step(before, lines, |pair, machine, first| {
+            pair.spoil(&case, aim.as_ref(), machine, first);
+        });
         self.steps += 1;
         self.made[usize::from(opcode)] += 1;
         let judged = self.judge(&case, aim, rust, answer);
@@ -111,7 +164,7 @@ impl Pair {
                 what,
             }),
             Ok(after) if self.window.len() < WINDOW => Ok(after),
-            Ok(after) => self.compare_all_bytes().map(|()| after),
+            Ok(after) => self.compare_all_bytes(RUST_AND_PORT).map(|()| after),
         }
     }
 
@@ -128,13 +181,14 @@ impl Pair {
         let StepAnswer::Made { machine, first } = answer else {
             return Err(format!("the port answered {answer:?}"));
         };
+        judge_level(&machine, case.lines)?;
         self.judge_accesses()?;
         self.judge_first(aim, first)?;
         let Some(demanded) = known::demanded(case, &rust) else {
             return Err(format!("the listed difference: the Rust went to {rust}"));
         };
         // Where the Rust's state is not the one that is demanded, the port's must be another than the Rust's too.
-        match difference(&demanded, &state_of(&machine)) {
+        match difference(RUST_AND_PORT, &demanded, &state_of(&machine)) {
             None => {
                 if let Some(known) = known::cause(case) {
                     self.listed[known as usize][usize::from(case.byte(case.state.counter))] += 1;
@@ -190,12 +244,9 @@ impl Pair {
         ))
     }
 
-    /// Puts the planted fault into the port's results.
-    fn spoil(&mut self, case: &Case, aim: Option<&Aim>, answer: &mut StepAnswer) {
+    /// Puts the planted fault into the port's results of an opcode.
+    fn spoil(&mut self, case: &Case, aim: Option<&Aim>, machine: &mut Machine, first: &mut u16) {
         let code = [0, 1, 2].map(|number| case.byte(case.state.operand(number)));
-        let StepAnswer::Made { machine, first } = answer else {
-            return;
-        };
         match (self.plant, code, self.expected.last()) {
             (Plant::Store, [0x91, 0xFF, _], Some(Access::Store(address))) => {
                 self.memory[usize::from(*address)] ^= 1;
@@ -208,15 +259,26 @@ impl Pair {
         }
     }
 
-    /// All bytes; where one differs, the cases since the last time are asked one by one which of them it was.
-    pub fn compare_all_bytes(&mut self) -> Result<(), Fault> {
-        let window = std::mem::replace(&mut self.window, Vec::with_capacity(WINDOW));
-        let Some(what) = byte_difference(self.rust.bytes(), &self.memory) else {
+    /// And into those of a step that serves a line.
+    pub(crate) fn spoil_service(&mut self, before: &State) {
+        if self.plant == Plant::Break {
+            self.memory[usize::from(before.in_stack(0xFE))] |= 0x10;
+        }
+    }
+
+    /// All bytes; where one differs, the cases since the last time are asked one by one which of them it was, if there are more
+    /// than one.
+    pub fn compare_all_bytes(&mut self, names: Names) -> Result<(), Fault> {
+        if self.rust.bytes() == self.memory {
+            self.window.clear();
             return Ok(());
-        };
+        }
+        let window = std::mem::take(&mut self.window);
+        let what = byte_difference(names, self.rust.bytes(), &self.memory).unwrap_or_default();
+        let is_alone = window.len() == 1;
         let guilty = window
             .iter()
-            .find(|case| fault_of(case, self.plant).is_some());
+            .find(|case| is_alone || fault_of(case, self.plant).is_some());
         Err(Fault {
             case: guilty.cloned(),
             what,
@@ -224,11 +286,22 @@ impl Pair {
     }
 }
 
+/// That the step recorded the present level of NMI.
+pub fn judge_level(machine: &Machine, lines: interrupts::Lines) -> Result<(), String> {
+    if machine.last_nmi == level_of(lines.nmi) {
+        return Ok(());
+    }
+    Err(format!(
+        "the last level of NMI: the rules {:?}, the port {:?}",
+        lines.nmi, machine.last_nmi
+    ))
+}
+
 /// What differs in the step of a case on an otherwise empty memory, all bytes compared.
 pub fn fault_of(case: &Case, plant: Plant) -> Option<String> {
     let mut pair = Pair::new(case.memory(), plant);
-    match pair.step(&case.state) {
-        Ok(_) => byte_difference(pair.rust.bytes(), &pair.memory),
+    match pair.same_call(case) {
+        Ok(()) => byte_difference(RUST_AND_PORT, pair.rust.bytes(), &pair.memory),
         Err(fault) => Some(fault.what),
     }
 }

@@ -10,8 +10,8 @@ use std::process::ExitCode;
 use std::time::Duration;
 
 use oracle::loops::{self, Loop};
-use oracle::state::{State, byte_difference, difference};
-use saxundeer::RunAnswer;
+use oracle::state::{RUST_AND_PORT, State, byte_difference, difference};
+use saxundeer::{Lines, RunAnswer};
 
 use clock::processor_time;
 use oracle::options::Options;
@@ -61,8 +61,8 @@ fn time_port(way: Way, image: &[u8], steps: u64) -> Result<Run, String> {
 
 /// That two runs ended alike.
 fn same(one: &Run, other: &Run) -> Result<(), String> {
-    let differs = difference(&one.1, &other.1);
-    match differs.or_else(|| byte_difference(&one.2, &other.2)) {
+    let differs = difference(RUST_AND_PORT, &one.1, &other.1);
+    match differs.or_else(|| byte_difference(RUST_AND_PORT, &one.2, &other.2)) {
         None => Ok(()),
         Some(what) => Err(format!("the end states differ in {what}")),
     }
@@ -131,7 +131,7 @@ fn fault_in(program: &Loop, fault: &str) -> String {
 fn time_long(image: &[u8], steps: u64) -> Result<Run, String> {
     let mut memory = image.to_vec();
     let begin = processor_time();
-    match saxundeer::long_run(machine_of(&loops::START), steps, &mut memory) {
+    match saxundeer::long_run(machine_of(&loops::START), steps, Lines::IDLE, &mut memory) {
         RunAnswer::Made(progress) if progress.steps == steps => {
             let time = processor_time() - begin;
             Ok((time, state_of(&progress.machine), memory))

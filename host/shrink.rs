@@ -1,6 +1,7 @@
 //! Makes an input on which the cores differ as small as it goes, so that a reader sees what matters.
 
 use oracle::case::Case;
+use oracle::interrupts::Level;
 
 use crate::pair::{Fault, Plant, fault_of};
 
@@ -14,7 +15,6 @@ pub fn shrunk(fault: Fault, plant: Plant) -> Fault {
     // Every smaller case that still differs is taken, until none does.
     while let Some((smaller, differs)) = candidates(&case)
         .into_iter()
-        .filter(|smaller| smaller.entry().is_some())
         .find_map(|smaller| fault_of(&smaller, plant).map(|what| (smaller, what)))
     {
         case = smaller;
@@ -26,14 +26,16 @@ pub fn shrunk(fault: Fault, plant: Plant) -> Fault {
     }
 }
 
-/// The case with one thing less in it: each register as after a reset, each flag clear, each byte but the opcode 0.
+/// The case with one thing less in it: each register as after a reset, each flag clear, each line high, each byte but the one
+/// at the counter 0.
 fn candidates(case: &Case) -> Vec<Case> {
     let mut list = Vec::new();
     let mut add = |change: &dyn Fn(&mut Case)| {
         let mut smaller = case.clone();
         change(&mut smaller);
         let smaller = smaller.smallest();
-        if smaller.state != case.state || smaller.bytes != case.bytes {
+        if (smaller.state, smaller.lines) != (case.state, case.lines) || smaller.bytes != case.bytes
+        {
             list.push(smaller);
         }
     };
@@ -46,6 +48,9 @@ fn candidates(case: &Case) -> Vec<Case> {
     for bit in 0..8 {
         add(&|case| case.state.status &= !(1 << bit));
     }
+    add(&|case| case.lines.irq = Level::High);
+    add(&|case| case.lines.nmi = Level::High);
+    add(&|case| case.lines.last_nmi = Level::High);
     for (address, _) in case.bytes.iter().skip(1) {
         add(&|case| case.put(*address, 0));
     }

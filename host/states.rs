@@ -1,8 +1,9 @@
 //! The port's machine as the state that the Rust's is compared with, and back.
 
 use oracle::state::State;
-use saxundeer::{Machine, Registers, StackPointer, Status};
+use saxundeer::{Level, Machine, Registers, StackPointer, Status};
 
+/// The last level of NMI, which a state does not have, is high.
 pub fn machine_of(state: &State) -> Machine {
     Machine {
         registers: Registers {
@@ -14,6 +15,7 @@ pub fn machine_of(state: &State) -> Machine {
             status: Status::from_bits_truncate(state.status),
         },
         cycles: state.cycles,
+        last_nmi: Level::High,
     }
 }
 

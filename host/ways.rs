@@ -1,8 +1,8 @@
-//! The ways in which a host has the port make steps.
+//! The ways in which a host has the port make steps, the lines being idle.
 
 use oracle::loops;
 use oracle::state::State;
-use saxundeer::{HIGHEST_BOUND, StepAnswer};
+use saxundeer::{HIGHEST_BOUND, Lines, StepAnswer};
 
 use crate::states::{machine_of, state_of};
 
@@ -10,6 +10,7 @@ unsafe extern "C" {
     fn mos6502_step(
         registers: *mut u64,
         cycles: *mut u64,
+        lines: u8,
         first: *mut u16,
         memory: *mut u8,
         length: usize,
@@ -19,10 +20,14 @@ unsafe extern "C" {
         cycles: *mut u64,
         steps: *mut u64,
         bound: u64,
+        lines: u8,
         memory: *mut u8,
         length: usize,
     ) -> u8;
 }
+
+/// Both lines high, as the C functions have it.
+const IDLE: u8 = 0;
 
 /// Makes so many steps on a memory, from the state at which the loops start.
 pub type Way = fn(&mut [u8], u64) -> Result<State, String>;
@@ -72,6 +77,7 @@ pub fn by_run(memory: &mut [u8], steps: u64) -> Result<State, String> {
                 &mut cycles,
                 &mut part,
                 bound,
+                IDLE,
                 memory.as_mut_ptr(),
                 memory.len(),
             )
@@ -93,6 +99,7 @@ pub fn by_step(memory: &mut [u8], steps: u64) -> Result<State, String> {
             mos6502_step(
                 &mut registers,
                 &mut cycles,
+                IDLE,
                 &mut first,
                 memory.as_mut_ptr(),
                 memory.len(),
@@ -109,7 +116,7 @@ pub fn by_step(memory: &mut [u8], steps: u64) -> Result<State, String> {
 pub fn by_crate(memory: &mut [u8], steps: u64) -> Result<State, String> {
     let mut machine = machine_of(&loops::START);
     for made in 0..steps {
-        match saxundeer::single_step(machine, memory) {
+        match saxundeer::single_step(machine, Lines::IDLE, memory) {
             StepAnswer::Made { machine: after, .. } => machine = after,
             other => return Err(format!("single_step answered {other:?} after {made} steps")),
         }

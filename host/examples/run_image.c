@@ -67,7 +67,8 @@ int main(int count, char **words)
     }
     fclose(file);
     struct run run = start(memory);
-    run.answer = mos6502_long_run(&run.registers, &run.cycles, &run.steps, strtoull(words[2], NULL, 10), memory, length);
+    run.answer = mos6502_long_run(&run.registers, &run.cycles, &run.steps, strtoull(words[2], NULL, 10), MOS6502_IDLE,
+                                  memory, length);
     int printed = run.answer == 1 ? printf("1\n") : print_line(run);
     if (printed < 0 || fflush(stdout) != 0) {
         perror("standard output");

@@ -19,7 +19,7 @@ static uint8_t step(uint64_t *registers, uint64_t *cycles, uint8_t *memory, size
 {
     uint16_t counter = mos6502_counter(*registers), first;
     uint64_t before = *cycles;
-    uint8_t answer = mos6502_step(registers, cycles, &first, memory, length);
+    uint8_t answer = mos6502_step(registers, cycles, MOS6502_IDLE, &first, memory, length);
     if (answer == 0)
         printf("%04X %" PRIu64 " %04X\n", counter, *cycles - before, first);
     return answer;

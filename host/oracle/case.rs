@@ -1,8 +1,9 @@
-//! One input of a step: the state before it and the bytes that matter. All other bytes are 0, or anything.
+//! One input of a step: the state before it, the lines, and the bytes that matter. All other bytes are 0, or anything.
 
 use std::fmt::{Display, Formatter, Result};
 
 use crate::core::Access;
+use crate::interrupts::Lines;
 use crate::random::Random;
 use crate::rules::{self, Entry};
 use crate::state::State;
@@ -10,22 +11,28 @@ use crate::state::State;
 #[derive(Clone)]
 pub struct Case {
     pub state: State,
+    pub lines: Lines,
     pub bytes: Vec<(u16, u8)>,
 }
 
 impl Case {
+    /// With idle lines and no bytes.
     #[must_use]
     pub fn new(state: State) -> Case {
         Case {
             state,
+            lines: Lines::IDLE,
             bytes: Vec::with_capacity(8),
         }
     }
 
-    /// The case that a step from this state on this memory is.
+    /// The case that a step from this state with these lines on this memory is.
     #[must_use]
-    pub fn of_memory(state: State, accesses: &[Access], memory: &[u8]) -> Case {
-        let mut case = Case::new(state);
+    pub fn of_memory(state: State, lines: Lines, accesses: &[Access], memory: &[u8]) -> Case {
+        let mut case = Case {
+            lines,
+            ..Case::new(state)
+        };
         for access in accesses {
             if let Access::Read(address) = *access {
                 case.put(address, memory[usize::from(address)]);
@@ -64,12 +71,26 @@ impl Case {
         rules::entry(self.byte(self.state.counter))
     }
 
+    /// What one of the two cores reads and stores: the rules' list for the byte at the counter, which is itself all of it
+    /// where it is no opcode; and where a line is served, its step besides.
+    fn accesses(&self, list: &mut Vec<Access>) {
+        match self.entry() {
+            Some(entry) => entry.accesses(&self.state, |address| self.byte(address), list),
+            None => {
+                list.clear();
+                list.push(Access::Read(self.state.counter));
+            }
+        }
+        if let Some(line) = self.lines.due(&self.state) {
+            list.extend(line.accesses(&self.state));
+        }
+    }
+
     /// Gives every byte that the step reads and that was not put a random value, pointers first.
     pub fn fill(&mut self, random: &mut Random) {
-        let Some(entry) = self.entry() else { return };
-        let mut accesses = Vec::with_capacity(8);
+        let mut accesses = Vec::with_capacity(12);
         loop {
-            entry.accesses(&self.state, |address| self.byte(address), &mut accesses);
+            self.accesses(&mut accesses);
             let missing = accesses.iter().find_map(|access| match *access {
                 Access::Read(address) if self.find(address).is_none() => Some(address),
                 _ => None,
@@ -84,14 +105,15 @@ impl Case {
     /// The same case with no byte but those that the step reads, in the order in which it does.
     #[must_use]
     pub fn smallest(&self) -> Case {
-        let mut smallest = Case::new(self.state);
-        if let Some(entry) = self.entry() {
-            let mut accesses = Vec::new();
-            entry.accesses(&self.state, |address| self.byte(address), &mut accesses);
-            for access in accesses {
-                if let Access::Read(address) = access {
-                    smallest.put(address, self.byte(address));
-                }
+        let mut smallest = Case {
+            bytes: Vec::new(),
+            ..self.clone()
+        };
+        let mut accesses = Vec::new();
+        self.accesses(&mut accesses);
+        for access in accesses {
+            if let Access::Read(address) = access {
+                smallest.put(address, self.byte(address));
             }
         }
         smallest
@@ -108,7 +130,7 @@ impl Case {
     }
 }
 
-/// The opcode, the state, and the bytes with their addresses.
+/// The opcode, the state, the bytes with their addresses, and the lines where they are not idle.
 impl Display for Case {
     fn fmt(&self, formatter: &mut Formatter) -> Result {
         write!(
@@ -120,6 +142,6 @@ impl Display for Case {
         for (address, byte) in &self.bytes {
             write!(formatter, " {byte:02X}@{address:04X}")?;
         }
-        Ok(())
+        write!(formatter, "{}", self.lines)
     }
 }

@@ -6,7 +6,10 @@ pub mod addresses;
 pub mod case;
 pub mod core;
 pub mod edges;
+pub mod interrupts;
 pub mod known;
+#[cfg(test)]
+mod line_tests;
 pub mod loops;
 pub mod options;
 pub mod random;

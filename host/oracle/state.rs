@@ -29,6 +29,15 @@ impl Display for State {
 }
 
 impl State {
+    /// The flag I in the status.
+    pub const MASK: u8 = 0x04;
+
+    /// Whether I is set, so that IRQ is not served.
+    #[must_use]
+    pub fn is_masked(&self) -> bool {
+        self.status & State::MASK != 0
+    }
+
     pub fn of<M: Bus>(cpu: &CPU<M, Nmos6502>) -> State {
         State {
             counter: cpu.registers.program_counter,
@@ -73,49 +82,57 @@ impl State {
     }
 }
 
-/// The first thing in which the port's state is another than the Rust's.
+/// Whose two results are compared.
+pub type Names<'a> = [&'a str; 2];
+
+pub const RUST_AND_PORT: Names = ["the Rust", "the port"];
+
+/// The first thing in which the second state is another than the first.
 #[must_use]
-pub fn difference(rust: &State, port: &State) -> Option<String> {
-    let [rust, port] = [rust, port].map(|state| state.with_six_flags());
-    if rust == port {
+pub fn difference([one, other]: Names, first: &State, second: &State) -> Option<String> {
+    let [first, second] = [first, second].map(|state| state.with_six_flags());
+    if first == second {
         return None;
     }
     let fields = [
-        ("the counter", rust.counter.into(), port.counter.into()),
-        ("A", rust.accumulator.into(), port.accumulator.into()),
-        ("X", rust.x.into(), port.x.into()),
-        ("Y", rust.y.into(), port.y.into()),
-        ("S", rust.stack.into(), port.stack.into()),
-        ("the flags", rust.status.into(), port.status.into()),
+        ("the counter", first.counter.into(), second.counter.into()),
+        ("A", first.accumulator.into(), second.accumulator.into()),
+        ("X", first.x.into(), second.x.into()),
+        ("Y", first.y.into(), second.y.into()),
+        ("S", first.stack.into(), second.stack.into()),
+        ("the flags", first.status.into(), second.status.into()),
     ];
-    let first = fields
+    let found = fields
         .iter()
-        .find(|(_, rust, port): &&(_, u64, u64)| rust != port);
-    Some(match first {
-        Some((what, rust, port)) => format!("{what}: the Rust {rust:X}, the port {port:X}"),
+        .find(|(_, first, second): &&(_, u64, u64)| first != second);
+    Some(match found {
+        Some((what, first, second)) => format!("{what}: {one} {first:X}, {other} {second:X}"),
         None => format!(
-            "the cycles: the Rust {}, the port {}",
-            rust.cycles, port.cycles
+            "the cycles: {one} {}, {other} {}",
+            first.cycles, second.cycles
         ),
     })
 }
 
-/// The first byte in which the port's memory is another than the Rust's.
+/// The first byte in which the second memory is another than the first.
 #[must_use]
-pub fn byte_difference(rust: &[u8], port: &[u8]) -> Option<String> {
-    if rust == port {
+pub fn byte_difference([one, other]: Names, first: &[u8], second: &[u8]) -> Option<String> {
+    if first == second {
         return None;
     }
-    let place = rust.iter().zip(port).position(|(rust, port)| rust != port);
+    let place = first
+        .iter()
+        .zip(second)
+        .position(|(one, other)| one != other);
     Some(match place {
         Some(place) => format!(
-            "the byte at {place:04X}: the Rust {:02X}, the port {:02X}",
-            rust[place], port[place]
+            "the byte at {place:04X}: {one} {:02X}, {other} {:02X}",
+            first[place], second[place]
         ),
         None => format!(
-            "the memory's length: the Rust {}, the port {}",
-            rust.len(),
-            port.len()
+            "the memory's length: {one} {}, {other} {}",
+            first.len(),
+            second.len()
         ),
     })
 }

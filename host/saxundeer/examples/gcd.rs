@@ -3,7 +3,7 @@
 
 use std::process::ExitCode;
 
-use saxundeer::{Ending, MEMORY_SIZE, Machine, Registers, run_to};
+use saxundeer::{Ending, Lines, MEMORY_SIZE, Machine, run_to};
 
 /// From 0200 on; the numbers stand at 00 and 01, and the result comes into A.
 const PROGRAM: [u8; 28] = [
@@ -26,10 +26,7 @@ const PROGRAM: [u8; 28] = [
 fn main() -> ExitCode {
     // let mut cpu = CPU::new(Memory::new(), Nmos6502);
     let mut memory = vec![0; MEMORY_SIZE];
-    let mut machine = Machine {
-        registers: Registers::new(),
-        cycles: 0,
-    };
+    let mut machine = Machine::new();
 
     // cpu.memory.set_bytes(0x0000, &[56, 49]);
     // cpu.memory.set_bytes(0x0200, &PROGRAM);
@@ -41,7 +38,7 @@ fn main() -> ExitCode {
 
     // cpu.run();    which came back here, whatever had happened
     // println!("{}", cpu.registers.accumulator);
-    match run_to(machine, 0x021B, 10_000, &mut memory) {
+    match run_to(machine, 0x021B, 10_000, Lines::IDLE, &mut memory) {
         Ending::Arrived(progress) => {
             println!("{}", progress.machine.registers.accumulator);
             ExitCode::SUCCESS

@@ -5,7 +5,7 @@ use std::fs;
 use std::io::{self, Write};
 use std::process::ExitCode;
 
-use saxundeer::{Ending, Machine, Progress, run_to};
+use saxundeer::{Ending, Lines, Machine, Progress, run_to};
 
 const USAGE: &str = "usage: run_image STOP LIMIT IMAGE, as in: run_image 020B 50000000 night.img";
 
@@ -29,7 +29,7 @@ fn report(stop: u16, limit: u64, memory: &mut [u8]) -> (String, u8) {
     let Some(machine) = Machine::start(memory) else {
         return ("1".into(), 1);
     };
-    match run_to(machine, stop, limit, memory) {
+    match run_to(machine, stop, limit, Lines::IDLE, memory) {
         Ending::Arrived(progress) => (line(3, &progress), 0),
         Ending::BrokeOff(progress) => (line(3, &progress), 3),
         Ending::StillRunning(progress) => (line(0, &progress), 20),

@@ -2,12 +2,13 @@
 
 /// A run and a long run take the same.
 pub(crate) type RunFunction =
-    unsafe extern "C" fn(*mut u64, *mut u64, *mut u64, u64, *mut u8, usize) -> u8;
+    unsafe extern "C" fn(*mut u64, *mut u64, *mut u64, u64, u8, *mut u8, usize) -> u8;
 
 unsafe extern "C" {
     pub(crate) fn mos6502_step(
         registers: *mut u64,
         cycles: *mut u64,
+        lines: u8,
         first: *mut u16,
         memory: *mut u8,
         length: usize,
@@ -17,6 +18,7 @@ unsafe extern "C" {
         cycles: *mut u64,
         steps: *mut u64,
         bound: u64,
+        lines: u8,
         memory: *mut u8,
         length: usize,
     ) -> u8;
@@ -25,6 +27,7 @@ unsafe extern "C" {
         cycles: *mut u64,
         steps: *mut u64,
         bound: u64,
+        lines: u8,
         memory: *mut u8,
         length: usize,
     ) -> u8;
@@ -48,4 +51,5 @@ unsafe extern "C" {
     pub(crate) safe fn mos6502_stack(registers: u64) -> u8;
     pub(crate) safe fn mos6502_status(registers: u64) -> u8;
     pub(crate) safe fn mos6502_counter(registers: u64) -> u16;
+    pub(crate) safe fn mos6502_nmi(registers: u64) -> u8;
 }

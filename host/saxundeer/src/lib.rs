@@ -5,16 +5,37 @@
 //! it. Whoever knows the address at which the program is meant to end asks [`run_to`], whose `Arrived` says it.
 //!
 //! ```
-//! use saxundeer::{Ending, MEMORY_SIZE, Machine, run_to};
+//! use saxundeer::{Ending, Lines, MEMORY_SIZE, Machine, run_to};
 //!
 //! let mut memory = vec![0; MEMORY_SIZE];
 //! memory[0x0200..0x0203].copy_from_slice(&[0xA9, 0x05, 0x02]); // LDA #$05, and a byte that is no opcode
 //! memory[0xFFFD] = 0x02; // the program begins at 0200
 //! let machine = Machine::start(&memory).expect("the memory is full");
-//! match run_to(machine, 0x0202, 1000, &mut memory) {
+//! match run_to(machine, 0x0202, 1000, Lines::IDLE, &mut memory) {
 //!     Ending::Arrived(progress) => assert_eq!(progress.machine.registers.accumulator, 0x05),
 //!     other => panic!("it did not end where it should: {other:?}"),
 //! }
+//! ```
+//!
+//! The interrupt lines are levels that a call is given and that hold for the whole of it. A line that is due is served before
+//! an opcode, in a step of its own:
+//!
+//! ```
+//! use saxundeer::{Lines, MEMORY_SIZE, Machine, StepAnswer, single_step};
+//!
+//! let mut memory = vec![0; MEMORY_SIZE];
+//! memory[0x0200] = 0x58; // CLI: from now on IRQ is listened to
+//! memory[0xFFFC..].copy_from_slice(&[0x00, 0x02, 0x00, 0x03]); // the program begins at 0200, and IRQ leads to 0300
+//! let mut machine = Machine::start(&memory).expect("the memory is full");
+//! for (lines, counter) in [(Lines::IDLE, 0x0201), (Lines::IRQ_LOW, 0x0300)] {
+//!     match single_step(machine, lines, &mut memory) {
+//!         StepAnswer::Made { machine: after, .. } => machine = after,
+//!         other => panic!("the step was refused: {other:?}"),
+//!     }
+//!     assert_eq!(machine.registers.program_counter, counter);
+//! }
+//! assert_eq!(machine.cycles, 2 + 7);
+//! assert_eq!(memory[0x01FE..=0x01FF], [0x01, 0x02]); // RTI would return to 0201
 //! ```
 
 #![no_std]
@@ -23,6 +44,7 @@
 extern crate std;
 
 mod functions;
+mod lines;
 mod registers;
 mod run_to;
 #[cfg(feature = "tapes")]
@@ -32,6 +54,7 @@ mod tests;
 
 use functions::RunFunction;
 
+pub use lines::{Level, Lines};
 pub use registers::{Registers, StackPointer, Status};
 pub use run_to::{Ending, run_to};
 
@@ -42,27 +65,69 @@ pub const HIGHEST_CYCLES: u64 = u64::MAX - 7;
 /// The highest bound of `run`.
 pub const HIGHEST_BOUND: u64 = 1_000_000;
 
-/// The registers and the count of cycles.
+/// The registers, the count of cycles, and the last level of NMI.
 #[derive(Clone, Copy, Debug, PartialEq, Eq)]
 pub struct Machine {
     pub registers: Registers,
     pub cycles: u64,
+    /// The level of NMI at the last step made; high at first. A refused step keeps it.
+    pub last_nmi: Level,
+}
+
+impl Default for Machine {
+    fn default() -> Machine {
+        Machine::new()
+    }
 }
 
 impl Machine {
+    /// The registers of mos6502 at first: all 0, and only I set. No cycle is counted, and the last level of NMI is high.
+    #[must_use]
+    pub fn new() -> Machine {
+        Machine {
+            registers: Registers::new(),
+            cycles: 0,
+            last_nmi: Level::High,
+        }
+    }
+
+    /// What the part's reset line does, as in mos6502: S is lowered by three, I is set, the counter is the address at FFFC, and
+    /// the last level of NMI is high. None where the memory is not `MEMORY_SIZE` long.
+    #[must_use]
+    pub fn reset(mut self, memory: &[u8]) -> Option<Machine> {
+        if memory.len() != MEMORY_SIZE {
+            return None;
+        }
+        let registers = &mut self.registers;
+        registers.stack_pointer = StackPointer(registers.stack_pointer.0.wrapping_sub(3));
+        registers.program_counter = u16::from_le_bytes([memory[0xFFFC], memory[0xFFFD]]);
+        registers.status.set(Status::PS_DISABLE_INTERRUPTS, true);
+        self.last_nmi = Level::High;
+        Some(self)
+    }
+
     /// As the program `report` starts an image: the counter is the address at FFFC, A, X and Y are 00, S is FF, only I is
-    /// set, and no cycle is counted. None where the memory is not `MEMORY_SIZE` long.
+    /// set, no cycle is counted, and the last level of NMI is high. None where the memory is not `MEMORY_SIZE` long.
     #[must_use]
     pub fn start(memory: &[u8]) -> Option<Machine> {
-        let registers = Registers {
-            stack_pointer: StackPointer(0xFF),
-            program_counter: Registers::new().reset(memory)?.program_counter,
-            ..Registers::new()
-        };
-        Some(Machine {
-            registers,
-            cycles: 0,
-        })
+        let mut machine = Machine::new().reset(memory)?;
+        machine.registers.stack_pointer = StackPointer(0xFF);
+        Some(machine)
+    }
+
+    /// The number that the C functions take for the registers, with the last level of NMI.
+    #[inline]
+    fn number(self) -> u64 {
+        self.registers.number() | u64::from(self.last_nmi.bit()) << 56
+    }
+
+    #[inline]
+    fn of_numbers(number: u64, cycles: u64) -> Machine {
+        Machine {
+            registers: Registers::of_number(number),
+            cycles,
+            last_nmi: Level::of_bit((number >> 56) as u8),
+        }
     }
 }
 
@@ -72,13 +137,13 @@ impl Machine {
 pub enum StepAnswer {
     /// The machine after the step, and the address that the part puts out first: where an index is added to an address of
     /// two bytes, the base's high byte with the sum's low byte; in every other mode that has an address, the final one; 0
-    /// where the mode has none (implied, accumulator, immediate, branch).
+    /// where the mode has none (implied, accumulator, immediate, branch) and where a line is served.
     Made { machine: Machine, first: u16 },
     /// The memory is not `MEMORY_SIZE` long.
     MemoryNotFull(Machine),
     /// The count of cycles is above `HIGHEST_CYCLES`.
     NoCycleRoom(Machine),
-    /// The byte at the program counter is none of the 151 documented opcodes.
+    /// No line is served, and the byte at the program counter is none of the 151 documented opcodes.
     NotAnOpcode(Machine),
 }
 
@@ -102,10 +167,12 @@ pub enum RunAnswer {
     BoundTooHigh(Progress),
 }
 
-/// One step. A refusal changes no byte.
+/// One step. It serves NMI where that falls, otherwise IRQ where that is low and I is clear, otherwise the opcode at the
+/// counter. To serve a line takes 7 cycles and reads no opcode: the counter and the status, bit 4 clear and bit 5 set, are
+/// pushed, I is set, and the counter becomes the address at FFFA for NMI, at FFFE for IRQ. A refusal changes no byte.
 #[inline]
-pub fn single_step(machine: Machine, memory: &mut [u8]) -> StepAnswer {
-    let mut number = machine.registers.number();
+pub fn single_step(machine: Machine, lines: Lines, memory: &mut [u8]) -> StepAnswer {
+    let mut number = machine.number();
     let mut cycles = machine.cycles;
     let mut first = 0;
     // Sound: the three numbers are this function's own, the memory is lent to it alone, and the length is the memory's.
@@ -113,15 +180,13 @@ pub fn single_step(machine: Machine, memory: &mut [u8]) -> StepAnswer {
         functions::mos6502_step(
             &mut number,
             &mut cycles,
+            lines.byte(),
             &mut first,
             memory.as_mut_ptr(),
             memory.len(),
         )
     };
-    let machine = Machine {
-        registers: Registers::of_number(number),
-        cycles,
-    };
+    let machine = Machine::of_numbers(number, cycles);
     match answer {
         0 => StepAnswer::Made { machine, first },
         1 => StepAnswer::MemoryNotFull(machine),
@@ -131,19 +196,26 @@ pub fn single_step(machine: Machine, memory: &mut [u8]) -> StepAnswer {
     }
 }
 
-/// At most `bound` steps, and `BoundTooHigh` where that is above `HIGHEST_BOUND`.
-pub fn run(machine: Machine, bound: u64, memory: &mut [u8]) -> RunAnswer {
-    run_by(functions::mos6502_run, machine, bound, memory)
+/// At most `bound` steps with the lines at these levels in all of them, and `BoundTooHigh` where that is above
+/// `HIGHEST_BOUND`. NMI is served in the first of the steps or in none.
+pub fn run(machine: Machine, bound: u64, lines: Lines, memory: &mut [u8]) -> RunAnswer {
+    run_by(functions::mos6502_run, machine, bound, lines, memory)
 }
 
-/// At most `bound` steps, any number of them: never `BoundTooHigh`.
-pub fn long_run(machine: Machine, bound: u64, memory: &mut [u8]) -> RunAnswer {
-    run_by(functions::mos6502_long_run, machine, bound, memory)
+/// At most `bound` steps, any number of them: never `BoundTooHigh`, and otherwise as `run`.
+pub fn long_run(machine: Machine, bound: u64, lines: Lines, memory: &mut [u8]) -> RunAnswer {
+    run_by(functions::mos6502_long_run, machine, bound, lines, memory)
 }
 
 /// A run by one of the two functions.
-fn run_by(function: RunFunction, machine: Machine, bound: u64, memory: &mut [u8]) -> RunAnswer {
-    let mut number = machine.registers.number();
+fn run_by(
+    function: RunFunction,
+    machine: Machine,
+    bound: u64,
+    lines: Lines,
+    memory: &mut [u8],
+) -> RunAnswer {
+    let mut number = machine.number();
     let mut cycles = machine.cycles;
     let mut steps = 0;
     // Sound: as in a step.
@@ -153,14 +225,12 @@ fn run_by(function: RunFunction, machine: Machine, bound: u64, memory: &mut [u8]
             &mut cycles,
             &mut steps,
             bound,
+            lines.byte(),
             memory.as_mut_ptr(),
             memory.len(),
         )
     };
-    let machine = Machine {
-        registers: Registers::of_number(number),
-        cycles,
-    };
+    let machine = Machine::of_numbers(number, cycles);
     let progress = Progress { steps, machine };
     match answer {
         0 => RunAnswer::Made(progress),

@@ -1,7 +1,5 @@
 //! The registers by value, with the names of the crate mos6502, and as the number that the C functions take.
 
-use crate::MEMORY_SIZE;
-
 /// The six flags, with the names of mos6502. The chip has nothing in bits 4 and 5, where mos6502 keeps what PLP and RTI
 /// pull: here they are always set, as in the byte that PHP pushes.
 #[derive(Clone, Copy, Debug, PartialEq, Eq)]
@@ -86,24 +84,8 @@ impl Registers {
         }
     }
 
-    /// What the part's reset line does, as in mos6502: S is lowered by three, I is set, and the counter is the address at
-    /// FFFC. None where the memory is not `MEMORY_SIZE` long.
-    #[must_use]
-    pub fn reset(self, memory: &[u8]) -> Option<Registers> {
-        if memory.len() != MEMORY_SIZE {
-            return None;
-        }
-        let mut status = self.status;
-        status.set(Status::PS_DISABLE_INTERRUPTS, true);
-        Some(Registers {
-            stack_pointer: StackPointer(self.stack_pointer.0.wrapping_sub(3)),
-            program_counter: u16::from_le_bytes([memory[0xFFFC], memory[0xFFFD]]),
-            status,
-            ..self
-        })
-    }
-
-    /// Made by shifts, so that it is stored as one number: stored byte by byte, the function would have to wait for it.
+    /// Bits 0 to 55 of the number. Made by shifts, so that it is stored as one: stored byte by byte, the function would have to
+    /// wait for it.
     #[inline]
     pub(crate) fn number(self) -> u64 {
         u64::from(self.accumulator)

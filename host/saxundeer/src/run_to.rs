@@ -1,6 +1,6 @@
 //! A run to the address at which a program is meant to end.
 
-use crate::{Machine, Progress, RunAnswer, long_run};
+use crate::{Lines, Machine, Progress, RunAnswer, long_run};
 
 /// How a run to a stop address ended, and how far it came. Only `Arrived` is what was asked for; there is no case for "it
 /// came back", so that a `match` must say what becomes of each.
@@ -19,10 +19,10 @@ pub enum Ending {
     MemoryNotFull(Progress),
 }
 
-/// At most `limit` steps, any number of them. The byte at `stop` is to be none of the 151 documented opcodes: a run does not
-/// stop at one that is.
-pub fn run_to(machine: Machine, stop: u16, limit: u64, memory: &mut [u8]) -> Ending {
-    match long_run(machine, limit, memory) {
+/// At most `limit` steps, any number of them, with the lines at these levels in all of them. The byte at `stop` is to be none
+/// of the 151 documented opcodes: a run does not stop at one that is, nor where a line is served.
+pub fn run_to(machine: Machine, stop: u16, limit: u64, lines: Lines, memory: &mut [u8]) -> Ending {
+    match long_run(machine, limit, lines, memory) {
         RunAnswer::Made(progress) => Ending::StillRunning(progress),
         RunAnswer::NotAnOpcode(progress) if progress.machine.registers.program_counter == stop => {
             Ending::Arrived(progress)

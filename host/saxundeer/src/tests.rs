@@ -5,14 +5,15 @@ use super::functions::*;
 use super::*;
 
 fn start() -> Machine {
+    let registers = Registers {
+        stack_pointer: StackPointer(0xFF),
+        program_counter: 0x0200,
+        status: Status::from_bits_truncate(0x00),
+        ..Registers::new()
+    };
     Machine {
-        registers: Registers {
-            stack_pointer: StackPointer(0xFF),
-            program_counter: 0x0200,
-            status: Status::from_bits_truncate(0x00),
-            ..Registers::new()
-        },
-        cycles: 0,
+        registers,
+        ..Machine::new()
     }
 }
 
@@ -60,13 +61,17 @@ fn the_number_is_that_of_the_proved_functions() {
         number = number
             .wrapping_mul(6_364_136_223_846_793_005)
             .wrapping_add(1_442_695_040_888_963_407);
-        let read = Registers::of_number(number);
+        let machine = Machine::of_numbers(number, 0);
+        let read = machine.registers;
         assert_eq!(read.accumulator, mos6502_accumulator(number));
         assert_eq!(read.index_x, mos6502_x(number));
         assert_eq!(read.index_y, mos6502_y(number));
         assert_eq!(read.stack_pointer.0, mos6502_stack(number));
         assert_eq!(read.status.bits(), mos6502_status(number));
         assert_eq!(read.program_counter, mos6502_counter(number));
+        let nmi = mos6502_nmi(number);
+        assert_eq!(machine.last_nmi == Level::High, nmi == 1);
+        assert!(nmi <= 1);
         let made = mos6502_registers(
             read.accumulator,
             read.index_x,
@@ -76,28 +81,37 @@ fn the_number_is_that_of_the_proved_functions() {
             read.program_counter,
         );
         assert_eq!(read.number(), made);
+        assert_eq!(mos6502_nmi(made), 1);
+        assert_eq!(machine.number(), made | u64::from(1 - nmi) << 56);
     }
 }
 
 #[test]
-fn new_registers_and_reset_are_as_in_mos6502() {
-    let new = Registers::new();
-    assert_eq!(new, Registers::default());
-    assert_eq!(
-        (new.stack_pointer, new.status.bits()),
-        (StackPointer(0x00), 0x34)
-    );
+fn a_new_machine_and_reset_are_as_in_mos6502() {
+    let new = Machine::new();
+    assert_eq!(new, Machine::default());
+    assert_eq!(new.registers, Registers::default());
+    assert_eq!(new.number(), mos6502_registers(0, 0, 0, 0, 0x04, 0));
+    assert_eq!(new.cycles, 0);
     let mut memory = memory_with(&[]);
     memory[0xFFFC..0xFFFE].copy_from_slice(&[0x34, 0x12]);
-    let before = Registers {
-        accumulator: 0x5A,
-        status: Status::from_bits_truncate(0x81),
-        ..new
+    let before = Machine {
+        registers: Registers {
+            accumulator: 0x5A,
+            status: Status::from_bits_truncate(0x81),
+            ..new.registers
+        },
+        cycles: 7,
+        last_nmi: Level::Low,
     };
-    let after = Registers {
-        stack_pointer: StackPointer(0xFD),
-        program_counter: 0x1234,
-        status: Status::from_bits_truncate(0x85),
+    let after = Machine {
+        registers: Registers {
+            stack_pointer: StackPointer(0xFD),
+            program_counter: 0x1234,
+            status: Status::from_bits_truncate(0x85),
+            ..before.registers
+        },
+        last_nmi: Level::High,
         ..before
     };
     assert_eq!(before.reset(&memory), Some(after));
@@ -110,7 +124,7 @@ fn a_machine_starts_as_in_a_report() {
     memory[0xFFFC..0xFFFE].copy_from_slice(&[0x34, 0x12]);
     let machine = Machine::start(&memory).unwrap();
     assert_eq!(
-        machine.registers.number(),
+        machine.number(),
         mos6502_registers(0, 0, 0, 0xFF, 0x04, 0x1234)
     );
     assert_eq!(machine.cycles, 0);
@@ -129,11 +143,14 @@ fn every_register_comes_back() {
             program_counter: u16::from(byte) << 8 | 0x7F,
             status: Status::from_bits_truncate(byte),
         };
-        // The memory is empty, so that the call hands back what it was given.
-        assert_eq!(
-            single_step(machine, &mut []),
-            StepAnswer::MemoryNotFull(machine)
-        );
+        for (last_nmi, lines) in [(Level::High, Lines::NMI_LOW), (Level::Low, Lines::IDLE)] {
+            machine.last_nmi = last_nmi;
+            // The memory is empty, so that the call hands back what it was given.
+            assert_eq!(
+                single_step(machine, lines, &mut []),
+                StepAnswer::MemoryNotFull(machine)
+            );
+        }
     }
 }
 
@@ -149,7 +166,7 @@ fn a_load_is_made() {
         machine: after,
         first: 0,
     };
-    assert_eq!(single_step(start(), &mut memory), made);
+    assert_eq!(single_step(start(), Lines::IDLE, &mut memory), made);
 }
 
 /// The address that a step with X 20 and Y 20 puts out first; at F0 stands the address 10F0.
@@ -159,7 +176,7 @@ fn first_of(code: &[u8]) -> u16 {
     let mut machine = start();
     machine.registers.index_x = 0x20;
     machine.registers.index_y = 0x20;
-    match single_step(machine, &mut memory) {
+    match single_step(machine, Lines::IDLE, &mut memory) {
         StepAnswer::Made { first, .. } => first,
         other => panic!("the step answered {other:?}"),
     }
@@ -199,8 +216,8 @@ fn a_step_says_which_address_is_put_out_first() {
 
 /// The number is written in every refusal too.
 #[test]
-fn a_refused_step_puts_out_no_address() {
-    let step = |opcode, mut cycles, length| {
+fn a_step_that_is_refused_or_serves_puts_out_no_address() {
+    let step = |opcode, mut cycles, lines: Lines, length| {
         let mut memory = memory_with(&[opcode, 0x34, 0x12]);
         let mut number = start().registers.number();
         let mut first = 0xFFFF;
@@ -209,6 +226,7 @@ fn a_refused_step_puts_out_no_address() {
             mos6502_step(
                 &mut number,
                 &mut cycles,
+                lines.byte(),
                 &mut first,
                 memory.as_mut_ptr(),
                 length,
@@ -216,10 +234,14 @@ fn a_refused_step_puts_out_no_address() {
         };
         (answer, first)
     };
-    assert_eq!(step(0xAD, 0, MEMORY_SIZE), (0, 0x1234));
-    assert_eq!(step(0xAD, 0, MEMORY_SIZE - 1), (1, 0));
-    assert_eq!(step(0xAD, HIGHEST_CYCLES + 1, MEMORY_SIZE), (2, 0));
-    assert_eq!(step(0x02, 0, MEMORY_SIZE), (3, 0));
+    let idle = Lines::IDLE;
+    assert_eq!(step(0xAD, 0, idle, MEMORY_SIZE), (0, 0x1234));
+    assert_eq!(step(0xAD, 0, idle, MEMORY_SIZE - 1), (1, 0));
+    assert_eq!(step(0xAD, HIGHEST_CYCLES + 1, idle, MEMORY_SIZE), (2, 0));
+    assert_eq!(step(0x02, 0, idle, MEMORY_SIZE), (3, 0));
+    // Nor does one that serves a line.
+    assert_eq!(step(0xAD, 0, Lines::IRQ_LOW, MEMORY_SIZE), (0, 0));
+    assert_eq!(step(0xAD, 0, Lines::NMI_LOW, MEMORY_SIZE), (0, 0));
 }
 
 #[test]
@@ -228,7 +250,8 @@ fn a_push_stores_and_wraps() {
     let mut machine = start();
     machine.registers.accumulator = 0x5A;
     machine.registers.stack_pointer = StackPointer(0);
-    let StepAnswer::Made { machine: after, .. } = single_step(machine, &mut memory) else {
+    let StepAnswer::Made { machine: after, .. } = single_step(machine, Lines::IDLE, &mut memory)
+    else {
         panic!("PHA was refused");
     };
     assert_eq!(memory[0x0100], 0x5A);
@@ -239,7 +262,7 @@ fn a_push_stores_and_wraps() {
 fn another_length_is_refused() {
     for length in [0, 1, MEMORY_SIZE - 1, MEMORY_SIZE + 1] {
         let mut memory = vec![0xEA; length];
-        let answer = single_step(start(), &mut memory);
+        let answer = single_step(start(), Lines::IDLE, &mut memory);
         assert_eq!(answer, StepAnswer::MemoryNotFull(start()));
         let nothing = Progress {
             steps: 0,
@@ -247,7 +270,7 @@ fn another_length_is_refused() {
         };
         // The length is looked at before the bound.
         for run in [run, long_run] {
-            let answer = run(start(), HIGHEST_BOUND + 1, &mut memory);
+            let answer = run(start(), HIGHEST_BOUND + 1, Lines::IDLE, &mut memory);
             assert_eq!(answer, RunAnswer::MemoryNotFull(nothing));
         }
         assert!(memory.iter().all(|byte| *byte == 0xEA));
@@ -260,13 +283,14 @@ fn the_last_count_of_cycles_steps_and_the_next_is_refused() {
     let mut memory = memory_with(&[0x00]);
     let mut machine = start();
     machine.cycles = HIGHEST_CYCLES;
-    let StepAnswer::Made { machine: after, .. } = single_step(machine, &mut memory) else {
+    let StepAnswer::Made { machine: after, .. } = single_step(machine, Lines::IDLE, &mut memory)
+    else {
         panic!("there was room for BRK");
     };
     assert_eq!(after.cycles, u64::MAX);
     machine.cycles = HIGHEST_CYCLES + 1;
     let before = memory.clone();
-    let answer = single_step(machine, &mut memory);
+    let answer = single_step(machine, Lines::IDLE, &mut memory);
     assert_eq!(answer, StepAnswer::NoCycleRoom(machine));
     assert_eq!(memory, before);
 }
@@ -275,7 +299,7 @@ fn the_last_count_of_cycles_steps_and_the_next_is_refused() {
 fn a_byte_that_is_no_opcode_is_refused() {
     let mut memory = memory_with(&[0x02]);
     let before = memory.clone();
-    let answer = single_step(start(), &mut memory);
+    let answer = single_step(start(), Lines::IDLE, &mut memory);
     assert_eq!(answer, StepAnswer::NotAnOpcode(start()));
     assert_eq!(memory, before);
 }
@@ -283,7 +307,7 @@ fn a_byte_that_is_no_opcode_is_refused() {
 #[test]
 fn exactly_105_bytes_are_refused() {
     let refused = (0..=0xFF).filter(|byte| {
-        let answer = single_step(start(), &mut memory_with(&[*byte]));
+        let answer = single_step(start(), Lines::IDLE, &mut memory_with(&[*byte]));
         matches!(answer, StepAnswer::NotAnOpcode(_))
     });
     assert_eq!(refused.count(), 105);
@@ -293,7 +317,7 @@ fn exactly_105_bytes_are_refused() {
 fn a_run_says_how_far_it_came() {
     // The report's example: one load, then a byte that is no opcode.
     let mut memory = memory_with(&[0xA9, 0x05, 0x02]);
-    let RunAnswer::NotAnOpcode(progress) = run(start(), 1000, &mut memory) else {
+    let RunAnswer::NotAnOpcode(progress) = run(start(), 1000, Lines::IDLE, &mut memory) else {
         panic!("the run did not stop at 02");
     };
     assert_eq!(progress.steps, 1);
@@ -313,8 +337,14 @@ fn a_run_makes_all_its_steps() {
             steps: bound,
             machine,
         };
-        assert_eq!(run(start(), bound, &mut memory), RunAnswer::Made(all));
-        assert_eq!(long_run(start(), bound, &mut memory), RunAnswer::Made(all));
+        assert_eq!(
+            run(start(), bound, Lines::IDLE, &mut memory),
+            RunAnswer::Made(all)
+        );
+        assert_eq!(
+            long_run(start(), bound, Lines::IDLE, &mut memory),
+            RunAnswer::Made(all)
+        );
     }
 }
 
@@ -325,7 +355,7 @@ fn a_bound_above_a_million_is_refused() {
         steps: 0,
         machine: start(),
     };
-    let answer = run(start(), HIGHEST_BOUND + 1, &mut memory);
+    let answer = run(start(), HIGHEST_BOUND + 1, Lines::IDLE, &mut memory);
     assert_eq!(answer, RunAnswer::BoundTooHigh(nothing));
 }
 
@@ -339,7 +369,7 @@ const COUNTED: u64 = 2 * (256 + 256 * 256 + 256 * 256 * 256);
 #[test]
 fn a_long_run_takes_any_bound() {
     for bound in [COUNTED, COUNTED + 1, u64::MAX] {
-        let answer = long_run(start(), bound, &mut memory_with(&COUNTERS));
+        let answer = long_run(start(), bound, Lines::IDLE, &mut memory_with(&COUNTERS));
         let progress = match answer {
             RunAnswer::Made(progress) if bound == COUNTED => progress,
             RunAnswer::NotAnOpcode(progress) if bound > COUNTED => progress,
@@ -356,7 +386,7 @@ fn a_long_run_is_the_runs_that_it_is_made_of() {
     let mut memory = memory_with(&COUNTERS);
     let mut machine = start();
     for bound in parts {
-        let RunAnswer::Made(progress) = run(machine, bound, &mut memory) else {
+        let RunAnswer::Made(progress) = run(machine, bound, Lines::IDLE, &mut memory) else {
             panic!("a part stopped");
         };
         assert_eq!(progress.steps, bound);
@@ -368,7 +398,7 @@ fn a_long_run_is_the_runs_that_it_is_made_of() {
         machine,
     };
     assert_eq!(
-        long_run(start(), all.steps, &mut whole),
+        long_run(start(), all.steps, Lines::IDLE, &mut whole),
         RunAnswer::Made(all)
     );
     assert_eq!(memory, whole);
@@ -380,7 +410,7 @@ fn a_run_stops_where_the_cycles_end() {
     let mut machine = start();
     machine.cycles = HIGHEST_CYCLES - 3;
     for run in [run, long_run] {
-        let RunAnswer::NoCycleRoom(progress) = run(machine, 10, &mut memory) else {
+        let RunAnswer::NoCycleRoom(progress) = run(machine, 10, Lines::IDLE, &mut memory) else {
             panic!("the run did not stop for want of cycles");
         };
         // Steps start at -3 and at 0 from the highest count; the third would start at +3.
@@ -403,32 +433,38 @@ macro_rules! ended {
 fn a_run_to_an_address_tells_five_endings_apart() {
     let code = [0xA9, 0x05, 0x02];
     assert_eq!(
-        ended!(Arrived, run_to(start(), 0x0202, 9, &mut memory_with(&code))),
+        ended!(
+            Arrived,
+            run_to(start(), 0x0202, 9, Lines::IDLE, &mut memory_with(&code))
+        ),
         (1, 0x0202)
     );
     assert_eq!(
         ended!(
             BrokeOff,
-            run_to(start(), 0x020B, 9, &mut memory_with(&code))
+            run_to(start(), 0x020B, 9, Lines::IDLE, &mut memory_with(&code))
         ),
         (1, 0x0202)
     );
     assert_eq!(
         ended!(
             StillRunning,
-            run_to(start(), 0x0202, 1, &mut memory_with(&code))
+            run_to(start(), 0x0202, 1, Lines::IDLE, &mut memory_with(&code))
         ),
         (1, 0x0202)
     );
     assert_eq!(
         ended!(
             StillRunning,
-            run_to(start(), 0x0202, 0, &mut memory_with(&code))
+            run_to(start(), 0x0202, 0, Lines::IDLE, &mut memory_with(&code))
         ),
         (0, 0x0200)
     );
     assert_eq!(
-        ended!(MemoryNotFull, run_to(start(), 0x0202, 9, &mut [])),
+        ended!(
+            MemoryNotFull,
+            run_to(start(), 0x0202, 9, Lines::IDLE, &mut [])
+        ),
         (0, 0x0200)
     );
     let late = Machine {
@@ -438,7 +474,7 @@ fn a_run_to_an_address_tells_five_endings_apart() {
     assert_eq!(
         ended!(
             NoCycleRoom,
-            run_to(late, 0x0202, 9, &mut memory_with(&code))
+            run_to(late, 0x0202, 9, Lines::IDLE, &mut memory_with(&code))
         ),
         (0, 0x0200)
     );
@@ -446,7 +482,216 @@ fn a_run_to_an_address_tells_five_endings_apart() {
 
 #[test]
 fn a_run_to_an_address_goes_on_after_a_million_steps() {
-    let run = |limit| run_to(start(), 0x020A, limit, &mut memory_with(&COUNTERS));
+    let run = |limit| {
+        run_to(
+            start(),
+            0x020A,
+            limit,
+            Lines::IDLE,
+            &mut memory_with(&COUNTERS),
+        )
+    };
     assert_eq!(ended!(Arrived, run(u64::MAX)), (COUNTED, 0x020A));
     assert_eq!(ended!(StillRunning, run(2_500_000)).0, 2_500_000);
+}
+
+const BOTH_LOW: Lines = Lines {
+    irq: Level::Low,
+    nmi: Level::Low,
+};
+
+/// A full memory of bytes that are no opcodes, whose NMI leads to 3412 and whose IRQ to 7856.
+fn memory_with_vectors() -> Vec<u8> {
+    let mut memory = vec![0x02; MEMORY_SIZE];
+    memory[0xFFFA..0xFFFC].copy_from_slice(&[0x12, 0x34]);
+    memory[0xFFFE..].copy_from_slice(&[0x56, 0x78]);
+    memory
+}
+
+/// That the step serves a line: what is pushed, and every register, the level and all other bytes besides.
+fn assert_serves(machine: Machine, lines: Lines, goal: u16) {
+    let mut memory = memory_with_vectors();
+    let mut expected = memory.clone();
+    let [low, high] = machine.registers.program_counter.to_le_bytes();
+    let status = machine.registers.status.bits() & 0xCF | 0x20;
+    let mut after = machine;
+    for byte in [high, low, status] {
+        let place = &mut after.registers.stack_pointer.0;
+        expected[0x0100 + usize::from(*place)] = byte;
+        *place = place.wrapping_sub(1);
+    }
+    after
+        .registers
+        .status
+        .set(Status::PS_DISABLE_INTERRUPTS, true);
+    after.registers.program_counter = goal;
+    after.cycles += 7;
+    after.last_nmi = lines.nmi;
+    let made = StepAnswer::Made {
+        machine: after,
+        first: 0,
+    };
+    assert_eq!(single_step(machine, lines, &mut memory), made);
+    assert_eq!(memory, expected);
+}
+
+#[test]
+fn a_line_that_is_due_is_served_in_place_of_the_byte_at_the_counter() {
+    for status in 0..=0xFF {
+        for stack in [0x00, 0x01, 0x02, 0xFF] {
+            let mut machine = start();
+            machine.registers.program_counter = 0xABCD;
+            machine.registers.stack_pointer = StackPointer(stack);
+            machine.registers.status = Status::from_bits_truncate(status);
+            machine.cycles = HIGHEST_CYCLES;
+            // NMI falls, whatever I is, and before IRQ.
+            assert_serves(machine, Lines::NMI_LOW, 0x3412);
+            assert_serves(machine, BOTH_LOW, 0x3412);
+            let masked = status & 0x04 != 0;
+            for (last_nmi, lines) in [
+                (Level::High, Lines::IRQ_LOW),
+                (Level::Low, Lines::IRQ_LOW),
+                (Level::Low, BOTH_LOW),
+            ] {
+                machine.last_nmi = last_nmi;
+                if masked {
+                    let answer = single_step(machine, lines, &mut memory_with_vectors());
+                    assert_eq!(answer, StepAnswer::NotAnOpcode(machine));
+                } else {
+                    assert_serves(machine, lines, 0x7856);
+                }
+            }
+        }
+    }
+}
+
+#[test]
+fn a_step_that_is_made_records_the_level_of_nmi_and_a_refused_one_keeps_it() {
+    let masked = Status::PS_DISABLE_INTERRUPTS;
+    for last_nmi in [Level::High, Level::Low] {
+        for lines in [Lines::IDLE, Lines::IRQ_LOW, Lines::NMI_LOW, BOTH_LOW] {
+            let mut machine = start();
+            machine.registers.status = masked;
+            machine.last_nmi = last_nmi;
+            // Served or NOP.
+            let StepAnswer::Made { machine: after, .. } =
+                single_step(machine, lines, &mut memory_with(&[0xEA]))
+            else {
+                panic!("the step was refused");
+            };
+            assert_eq!(after.last_nmi, lines.nmi);
+            let late = Machine {
+                cycles: HIGHEST_CYCLES + 1,
+                ..machine
+            };
+            let answer = single_step(late, lines, &mut memory_with(&[0xEA]));
+            assert_eq!(answer, StepAnswer::NoCycleRoom(late));
+            // A run of no steps records nothing.
+            let nothing = Progress { steps: 0, machine };
+            for run in [run, long_run] {
+                let answer = run(machine, 0, lines, &mut memory_with(&[0xEA]));
+                assert_eq!(answer, RunAnswer::Made(nothing));
+            }
+            let falls = last_nmi == Level::High && lines.nmi == Level::Low;
+            if !falls {
+                let answer = single_step(machine, lines, &mut memory_with(&[0x02]));
+                assert_eq!(answer, StepAnswer::NotAnOpcode(machine));
+            }
+        }
+    }
+}
+
+/// 0200 CLI, 0201 NOP, 0202 JMP $0201; NMI leads to 0300 and IRQ to 0400, to an INC of 10 or 11 and RTI each.
+fn memory_with_handlers() -> Vec<u8> {
+    let mut memory = memory_with(&[0x58, 0xEA, 0x4C, 0x01, 0x02]);
+    memory[0x0300..0x0303].copy_from_slice(&[0xE6, 0x10, 0x40]);
+    memory[0x0400..0x0403].copy_from_slice(&[0xE6, 0x11, 0x40]);
+    memory[0xFFFA..].copy_from_slice(&[0x00, 0x03, 0x00, 0x02, 0x00, 0x04]);
+    memory
+}
+
+/// How often each handler was run in a run of 100 steps from 0200, I set at first.
+fn handled(run: fn(Machine, u64, Lines, &mut [u8]) -> RunAnswer, lines: Lines) -> [u8; 2] {
+    let mut memory = memory_with_handlers();
+    let mut machine = start();
+    machine.registers.status = Status::PS_DISABLE_INTERRUPTS;
+    let RunAnswer::Made(progress) = run(machine, 100, lines, &mut memory) else {
+        panic!("the run stopped");
+    };
+    assert_eq!(progress.steps, 100);
+    assert_eq!(progress.machine.last_nmi, lines.nmi);
+    [memory[0x10], memory[0x11]]
+}
+
+#[test]
+fn a_run_serves_nmi_once_and_irq_whenever_i_is_clear() {
+    for run in [run, long_run] {
+        assert_eq!(handled(run, Lines::IDLE), [0, 0]);
+        assert_eq!(handled(run, Lines::NMI_LOW), [1, 0]);
+        // CLI, and then three steps for each: served, INC, RTI.
+        assert_eq!(handled(run, Lines::IRQ_LOW), [0, 33]);
+        // NMI first, which returns to CLI.
+        assert_eq!(handled(run, BOTH_LOW), [1, 32]);
+    }
+}
+
+#[test]
+fn rti_returns_from_a_line_to_the_instruction_that_was_not_begun() {
+    for status in 0..=0xFF {
+        for (lines, handler) in [(Lines::NMI_LOW, 0x0300), (Lines::IRQ_LOW, 0x0400)] {
+            let mut memory = memory_with_handlers();
+            let mut before = start();
+            before.registers.status = Status::from_bits_truncate(status);
+            let masked = before
+                .registers
+                .status
+                .contains(Status::PS_DISABLE_INTERRUPTS);
+            if masked && lines == Lines::IRQ_LOW {
+                continue;
+            }
+            let StepAnswer::Made { machine, .. } = single_step(before, lines, &mut memory) else {
+                panic!("the line was not served");
+            };
+            assert_eq!(machine.registers.program_counter, handler);
+            let RunAnswer::Made(progress) = run(machine, 2, Lines::IDLE, &mut memory) else {
+                panic!("INC and RTI were not made");
+            };
+            let after = progress.machine;
+            assert_eq!(after.registers, before.registers);
+            // The service, INC zp and RTI.
+            assert_eq!(after.cycles, 7 + 5 + 6);
+            assert_eq!(after.last_nmi, Level::High);
+        }
+    }
+}
+
+/// The number may have any bits from 57 on, and the byte of the lines any but its lowest two.
+#[test]
+fn other_bits_do_not_matter() {
+    for lines in 0..=0xFF {
+        for top in 0..=0xFF_u8 {
+            let mut memory = memory_with_handlers();
+            let mut number = start().number() | u64::from(top) << 56;
+            let (mut cycles, mut first) = (0, 0);
+            // Sound: the numbers and the memory are this test's own, and the length is the memory's.
+            let answer = unsafe {
+                mos6502_step(
+                    &mut number,
+                    &mut cycles,
+                    lines,
+                    &mut first,
+                    memory.as_mut_ptr(),
+                    memory.len(),
+                )
+            };
+            let falls = lines & 1 != 0 && top & 1 == 0;
+            let goal = match (falls, lines & 2 != 0) {
+                (true, _) => 0x0300,
+                (false, true) => 0x0400,
+                (false, false) => 0x0201,
+            };
+            assert_eq!((answer, mos6502_counter(number)), (0, goal));
+            assert_eq!(number >> 56, u64::from(lines & 1));
+        }
+    }
 }

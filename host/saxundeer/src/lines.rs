@@ -1,0 +1,63 @@
+//! The interrupt lines.
+
+/// The level of a line. Both lines of the part are at rest while they are high.
+#[derive(Clone, Copy, Debug, PartialEq, Eq)]
+pub enum Level {
+    High,
+    Low,
+}
+
+/// The present levels of the two interrupt lines, which hold for a whole call.
+///
+/// NMI is served once, at the first step after it fell: a step at which it is low while it was high at the last step made
+/// ([`Machine::last_nmi`](crate::Machine::last_nmi)). To be served again it has to be high for at least one step. IRQ is served
+/// whenever it is low and the flag I is clear, so that a device holds it low until it was answered, and no longer.
+#[derive(Clone, Copy, Debug, PartialEq, Eq)]
+pub struct Lines {
+    pub irq: Level,
+    pub nmi: Level,
+}
+
+impl Lines {
+    /// Both are high: nothing is served.
+    pub const IDLE: Lines = Lines {
+        irq: Level::High,
+        nmi: Level::High,
+    };
+    /// IRQ is low, NMI is high.
+    pub const IRQ_LOW: Lines = Lines {
+        irq: Level::Low,
+        ..Lines::IDLE
+    };
+    /// NMI is low, IRQ is high.
+    pub const NMI_LOW: Lines = Lines {
+        nmi: Level::Low,
+        ..Lines::IDLE
+    };
+
+    /// The byte that the C functions take.
+    #[inline]
+    pub(crate) fn byte(self) -> u8 {
+        self.nmi.bit() | self.irq.bit() << 1
+    }
+}
+
+impl Level {
+    /// Set where it is low, as in the numbers of the C functions.
+    #[inline]
+    pub(crate) fn bit(self) -> u8 {
+        match self {
+            Level::High => 0,
+            Level::Low => 1,
+        }
+    }
+
+    #[inline]
+    pub(crate) fn of_bit(bit: u8) -> Level {
+        if bit & 1 == 0 {
+            Level::High
+        } else {
+            Level::Low
+        }
+    }
+}
