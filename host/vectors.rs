@@ -1,4 +1,5 @@
-//! Writes steps of the Rust of docs/src, one a line, for a program that replays them.
+//! Writes steps of the Rust of docs/src, one a line, for a program that replays them; and steps that serve a line, which the
+//! Rust does otherwise, by the rules.
 
 use std::convert::Infallible;
 use std::process::ExitCode;
@@ -6,9 +7,11 @@ use std::process::ExitCode;
 use oracle::case::Case;
 use oracle::core::{Access, Core};
 use oracle::edges;
+use oracle::interrupts::{Line, Lines};
 use oracle::known;
 use oracle::random::Random;
 use oracle::rules::{self, Entry};
+use oracle::state::State;
 use oracle::sums;
 
 use oracle::options::Options;
@@ -88,20 +91,76 @@ fn enough(mut cases: Vec<Case>, wanted: usize, random: &mut Random) -> Vec<Case>
     cases
 }
 
-fn line(case: &Case) -> Result<String, String> {
-    let case = case.smallest();
-    let mut core = Core::of_case(&case);
-    let after = core
-        .step(&case.state)
-        .ok_or(format!("the Rust made no step: {case}"))?;
-    let mut line = format!("{case} | {after} |");
-    for access in core.accesses() {
-        if let Access::Store(address) = *access {
-            let byte = core.bytes()[usize::from(address)];
-            line += &format!(" {byte:02X}@{address:04X}");
+/// So many cases of every combination of the levels, the last one of NMI and I. Where a line is due, every other byte at the
+/// counter is no opcode.
+fn with_lines(random: &mut Random, of_levels: usize) -> Vec<Case> {
+    let opcodes: Vec<Entry> = rules::all().collect();
+    let mut cases = Vec::new();
+    for lines in Lines::all() {
+        for mask in [0, State::MASK] {
+            let wanted = cases.len() + of_levels;
+            while cases.len() < wanted {
+                let entry = opcodes[random.below(opcodes.len())];
+                let mut case = random.case(entry);
+                case.lines = lines;
+                case.state.status = case.state.status & !State::MASK | mask;
+                if lines.due(&case.state).is_some() && cases.len() % 2 == 0 {
+                    case.put_code(&[0x02]);
+                }
+                case.fill(random);
+                if known::cause(&case).is_none() {
+                    cases.push(case);
+                }
+            }
         }
     }
-    Ok(line)
+    cases
+}
+
+/// The state after a step, and what it stored.
+type After = (State, Vec<(u16, u8)>);
+
+/// By the rules.
+fn served(line: Line, case: &Case) -> After {
+    let service = line.service(&case.state, |address| case.byte(address));
+    (service.after, service.pushed.to_vec())
+}
+
+/// By the Rust.
+fn stepped(case: &Case) -> Result<After, String> {
+    let mut core = Core::of_case(case);
+    let after = core
+        .step_with(&case.state, case.lines)
+        .ok_or(format!("the Rust made no step: {case}"))?;
+    let mut stored = Vec::new();
+    for access in core.accesses() {
+        if let Access::Store(address) = *access {
+            stored.push((address, core.bytes()[usize::from(address)]));
+        }
+    }
+    Ok((after, stored))
+}
+
+fn line(case: &Case) -> Result<String, String> {
+    let case = case.smallest();
+    let (after, stored) = match case.lines.due(&case.state) {
+        Some(line) => served(line, &case),
+        None => stepped(&case)?,
+    };
+    let opcode = case.byte(case.state.counter);
+    let cells = |cells: &[(u16, u8)]| {
+        let cells = cells.iter();
+        cells
+            .map(|(address, byte)| format!(" {byte:02X}@{address:04X}"))
+            .collect::<String>()
+    };
+    Ok(format!(
+        "{opcode:02X} {:02X} {} |{} | {after} |{}",
+        case.lines.number(),
+        case.state,
+        cells(&case.bytes),
+        cells(&stored)
+    ))
 }
 
 fn write(options: &Options) -> Result<String, String> {
@@ -110,15 +169,25 @@ fn write(options: &Options) -> Result<String, String> {
     // A half for the opcodes, a half for the edges, and one of each at least.
     let of_opcode = count.div_ceil(2 * 151).max(1);
     let of_class = count.div_ceil(2 * CLASSES).max(1);
-    let mut text = String::new();
     let cases = chosen(&mut random, of_opcode, of_class);
-    for mut case in enough(cases, count, &mut random) {
+    let mut cases = enough(cases, count, &mut random);
+    let mut text = text_of(&mut cases, &mut random)?;
+    // A tenth as many with lines, and one of each combination at least.
+    let mut cases = with_lines(&mut random, count.div_ceil(10 * 16).max(1));
+    text += &text_of(&mut cases, &mut random)?;
+    Ok(text)
+}
+
+/// A line for each case, with a count of cycles.
+fn text_of(cases: &mut [Case], random: &mut Random) -> Result<String, String> {
+    let mut text = String::new();
+    for case in cases {
         case.state.cycles = if random.below(2) == 0 {
             0
         } else {
             random.below(1_000) as u64
         };
-        text += &line(&case)?;
+        text += &line(case)?;
         text.push('\n');
     }
     Ok(text)
