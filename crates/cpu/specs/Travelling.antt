@@ -1,4 +1,4 @@
--- What a run gives, and the address that its last step put out first, which a run drops and a step keeps; and the loop as a part of it.
+-- What a run gives, and the address that its last step put out first, which a run drops and a step keeps; and the loop within it.
 use Prim.Native.Nat.{ℕ, zero, suc, _+_, _-_, _≤_, _<_}
 use mathlib.Core.Path.{_≡_, refl, ap, sym, _∙_, subst}
 use mathlib.Core.Bool.{Bool, true, false, cond}
@@ -6,20 +6,18 @@ use mathlib.Core.List.{List}
 use native.Mathlib.Omega.{arith}
 use Rattle.manual.specs.declared.Lines.{Lines}
 use Rattle.manual.specs.declared.Machine.{Machine}
-use Rattle.manual.specs.declared.Due.{Due}
-use Rattle.manual.specs.declared.Due.the-variants.{Through, Quiet}
+use Rattle.manual.specs.declared.Due.the-variants.{Quiet}
 use Rattle.manual.specs.declared.Stepped.{Stepped}
 use Rattle.manual.specs.declared.Ended.{Ended}
 use Rattle.manual.specs.declared.Reason.{Reason}
 use Rattle.manual.specs.declared.Reason.the-variants.{Made, MemoryNotFull, NoCycleRoom, NotAnOpcode, BoundTooHigh}
 use Rattle.manual.specs.Micro.{Micro, done, _>>=_, exec, Gives}
 use Rattle.manual.specs.Outcomes.{isMade, stepped, ended}
-use Rattle.manual.specs.Interrupts.{due}
+use Rattle.manual.specs.Interrupts.{falls, due}
 use Rattle.manual.specs.Stepping.{stepFull, runFull}
 use Rattle.manual.specs.Theorems.Programs.{exec-then, exec-bind}
-use Rattle.cpu.specs.declared.Walked.{Walked}
 use Rattle.cpu.specs.declared.Travelled.{Travelled}
-use Rattle.cpu.specs.Walking.{walked, heed, walking}
+use Rattle.cpu.specs.Levels.{raised, was-high, same-step}
 
 abbrev pub travelled : ℕ → Ended → Travelled
 travelled first q = record { ended = q; first = first }
@@ -31,73 +29,38 @@ travelling (suc n) k first lines s = do
   q ← stepFull lines s
   cond (isMade (q .reason)) (travelling n (k + 1) (q .first) lines (q .machine)) (done (travelled (q .first) (ended (q .reason) k (q .machine))))
 
--- ---- the loop
+-- ---- the loop within
 
--- What the loop gave is the whole; or it made steps from `from` on, fewer than `end`, a line is due there, and the whole is what is left.
-pub data Goes (from end : ℕ) (lines : Lines) (whole : Travelled × List ℕ) : Walked → List ℕ → Type 0 where
-  over : {first : ℕ} {q : Ended} {m′ : List ℕ} → whole ≡ (travelled first q, m′) → Goes from end lines whole (walked Quiet first q) m′
-  due-at : {vector : ℕ} {q : Ended} {m′ : List ℕ} → from ≤ q .steps → q .steps < end → due lines (q .machine) ≡ Through vector
-      → whole ≡ exec (travelling (end - q .steps) (q .steps) 0 lines (q .machine)) m′
-      → Goes from end lines whole (walked (Through vector) 0 q) m′
+-- the last step of the loop: the bound where IRQ is high, and the next step where it is low, for after it I may be clear
+abbrev pub reach : Bool → ℕ → ℕ → ℕ
+reach irq k bound = cond irq bound (k + 1)
 
--- so it is with n steps after k
-abbrev GoesFrom : ℕ → ℕ → ℕ → ℕ → ℕ → Lines → Machine → List ℕ → Type 0
-GoesFrom from end n k first lines s m =
-    let w = exec (walking n k first lines s) m in Goes from end lines (exec (travelling n k first lines s) m) (w .0) (w .1)
+pub reach-low : (irq : Bool) (k bound : ℕ) → k < bound → (k < reach irq k bound) × (reach irq k bound ≤ bound)
+reach-low true k bound l = (l, omega arith)
+reach-low false k bound l = (omega arith, omega arith)
 
-module _ (n k first : ℕ) (lines : Lines) (s : Machine) (m : List ℕ) (from end : ℕ) (begins : from ≤ k) (ends : end ≡ suc n + k)
-    (later : (first₁ : ℕ) (s₁ : Machine) (m₁ : List ℕ) → GoesFrom from end n (k + 1) first₁ lines s₁ m₁) where
-  abbrev walks : Bool → Stepped → Micro Walked
-  walks t q = cond t (walking n (k + 1) (q .first) lines (q .machine)) (done (walked Quiet (q .first) (ended (q .reason) k (q .machine))))
+-- where it is not the bound it is the next step
+pub reach-next : (irq : Bool) (k bound : ℕ) → (reach irq k bound ≡ bound → ⊥) → reach irq k bound ≡ k + 1
+reach-next true k bound f = absurd (f refl)
+reach-next false k bound f = refl
 
-  abbrev travels : Bool → Stepped → Micro Travelled
-  travels t q = cond t (travelling n (k + 1) (q .first) lines (q .machine)) (done (travelled (q .first) (ended (q .reason) k (q .machine))))
-
-  by-reason : (t : Bool) (q : Stepped) (m₁ : List ℕ)
-      → let w = exec (walks t q) m₁ in Goes from end lines (exec (travels t q) m₁) (w .0) (w .1)
-  by-reason true q m₁ = later (q .first) (q .machine) m₁
-  by-reason false q m₁ = over refl
-
-  by-due : (d : Due) → due lines s ≡ d
-      → let w = exec (heed d (done (walked d 0 (ended Made k s))) (stepFull lines s >>= (λ q. walks (isMade (q .reason)) q))) m in
-      Goes from end lines (exec (travelling (suc n) k first lines s) m) (w .0) (w .1)
+module _ (lines : Lines) (s : Machine) (m : List ℕ) (f : falls lines s ≡ false) (e : due lines s ≡ Quiet) where
+  -- one step, whose line is not due
+  raised-one : (k first : ℕ) → exec (travelling 1 k first lines s) m ≡ exec (travelling 1 k first (raised (lines .nmi)) s) m
   unfolding travelling
-  by-due (Through vector) d =
-      let left : end - k ≡ suc n = omega arith in
-      due-at {q = ended Made k s} {m′ = m} begins (omega arith) d (rw left)
-  by-due Quiet d =
-      let p = exec (stepFull lines s) m in
-      rw (exec-bind (stepFull lines s) (λ q. walks (isMade (q .reason)) q) m, exec-bind (stepFull lines s) (λ q. travels (isMade (q .reason)) q) m)
-      (by-reason (isMade (p .0 .reason)) (p .0) (p .1))
+  raised-one k first =
+      exec-bind (stepFull lines s) _ m
+      ∙ ap (λ (w : Stepped × List ℕ). exec (next (w .0)) (w .1)) (same-step lines s m f e)
+      ∙ sym (exec-bind (stepFull (raised (lines .nmi)) s) _ m)
+    where
+      next : Stepped → Micro Travelled
+      next q = cond (isMade (q .reason)) (done (travelled (q .first) (ended Made (k + 1) (q .machine)))) (done (travelled (q .first) (ended (q .reason) k (q .machine))))
 
-goes : (n k first : ℕ) (lines : Lines) (s : Machine) (m : List ℕ) (from end : ℕ) → from ≤ k → end ≡ n + k → GoesFrom from end n k first lines s m
-unfolding walking travelling
-goes zero k first lines s m from end b e = over refl
-goes (suc n) k first lines s m from end b e =
-    by-due n k first lines s m from end b e (λ first₁ s₁ m₁. goes n (k + 1) first₁ lines s₁ m₁ from end (omega arith) (omega arith)) (due lines s) refl
-
-pub walk-goes : (bound k first : ℕ) (lines : Lines) (s : Machine) (m : List ℕ) {w : Walked} {m′ : List ℕ} → k < bound
-    → Gives (walking (bound - k) k first lines s) m w m′ → Goes k bound lines (exec (travelling (bound - k) k first lines s) m) w m′
-walk-goes bound k first lines s m l g =
-    subst (λ (p : Walked × List ℕ). Goes k bound lines (exec (travelling (bound - k) k first lines s) m) (p .0) (p .1)) g
-    (goes (bound - k) k first lines s m k bound (omega arith) (omega arith))
-
--- by what it left for
-pub record Left (from end : ℕ) (lines : Lines) (whole : Travelled × List ℕ) (w : Walked) (m′ : List ℕ) (vector : ℕ) : Type 0 where
-  pub on : from ≤ w .ended .steps
-  pub fewer : w .ended .steps < end
-  pub line : due lines (w .ended .machine) ≡ Through vector
-  pub rest : whole ≡ exec (travelling (end - w .ended .steps) (w .ended .steps) 0 lines (w .ended .machine)) m′
-
-pub went-for : {from end : ℕ} {lines : Lines} {whole : Travelled × List ℕ} {w : Walked} {m′ : List ℕ} {vector : ℕ} → Goes from end lines whole w m′
-    → w .due ≡ Through vector → Left from end lines whole w m′ vector
-went-for (over e) p = let z : _≡_ {A = ℕ} 0 1 = cc in absurd (omega arith)
-went-for (due-at b l d e) p = record { on = b; fewer = l; line = d ∙ p; rest = e }
-
-pub went-through : {from end : ℕ} {lines : Lines} {whole : Travelled × List ℕ} {w : Walked} {m′ : List ℕ} → Goes from end lines whole w m′
-    → w .due ≡ Quiet → whole ≡ (travelled (w .first) (w .ended), m′)
-went-through (over e) p = e
-went-through (due-at b l d e) p = let z : _≡_ {A = ℕ} 0 1 = cc in absurd (omega arith)
+  -- up to there a run is one with IRQ high
+  pub raised-run : (irq : Bool) (k bound first : ℕ) → lines .irq ≡ irq
+      → exec (travelling (reach irq k bound - k) k first lines s) m ≡ exec (travelling (reach irq k bound - k) k first (raised (lines .nmi)) s) m
+  raised-run true k bound first h = ap (λ (l : Lines). exec (travelling (bound - k) k first l s) m) (was-high lines h)
+  raised-run false k bound first h = let one : k + 1 - k ≡ 1 = omega arith in rw one (raised-one k first)
 
 -- ---- a step before the bound
 
@@ -118,6 +81,44 @@ module _ (lines : Lines) (s : Machine) (m : List ℕ) (q : Stepped) (m′ : List
       → Gives (travelling (bound - k) k first lines s) m (travelled (q .first) (ended (q .reason) k (q .machine))) m′
   unfolding travelling
   travel-refused h = rw one-more (exec-then (stepFull lines s) _ m g ∙ rw h)
+
+-- before the last step the address does not matter
+pub no-first : (n k first : ℕ) (lines : Lines) (s : Machine) (m : List ℕ) → exec (travelling (suc n) k first lines s) m ≡ exec (travelling (suc n) k 0 lines s) m
+unfolding travelling
+no-first n k first lines s m = refl
+
+-- What one step gave is the whole where it was refused, and otherwise the whole is what is left.
+pub record Next (bound k : ℕ) (lines : Lines) (whole : Travelled × List ℕ) (w : Travelled) (m′ : List ℕ) : Type 0 where
+  pub over : isMade (w .ended .reason) ≡ false → whole ≡ (w, m′)
+  pub rest : isMade (w .ended .reason) ≡ true → whole ≡ exec (travelling (bound - (k + 1)) (k + 1) 0 lines (w .ended .machine)) m′
+
+module _ (lines : Lines) (s : Machine) (m : List ℕ) (bound k first : ℕ) (l : k + 1 < bound) where
+  abbrev p : Stepped × List ℕ
+  p = exec (stepFull lines s) m
+
+  abbrev whole : Travelled × List ℕ
+  whole = exec (travelling (bound - k) k first lines s) m
+
+  by-reason : (t : Bool) → isMade (p .0 .reason) ≡ t
+      → let v = exec (cond t (done (travelled (p .0 .first) (ended Made (k + 1) (p .0 .machine)))) (done (travelled (p .0 .first) (ended (p .0 .reason) k (p .0 .machine))))) (p .1) in
+      Next bound k lines whole (v .0) (v .1)
+  by-reason true e = record {
+    over = λ h. let z : _≡_ {A = ℕ} 0 1 = cc in absurd (omega arith);
+    rest = λ h.
+        let more : bound - (k + 1) ≡ suc (bound - (k + 2)) = omega arith in
+        travel-next lines s m (p .0) (p .1) refl bound k first (omega arith) e
+        ∙ rw more (no-first (bound - (k + 2)) (k + 1) (p .0 .first) lines (p .0 .machine) (p .1));
+  }
+  by-reason false e = record {
+    over = λ h. travel-refused lines s m (p .0) (p .1) refl bound k first (omega arith) e;
+    rest = λ h. let z : false ≡ true = sym e ∙ h in let y : _≡_ {A = ℕ} 0 1 = cc in absurd (omega arith);
+  }
+
+  pub travel-one : {w : Travelled} {m′ : List ℕ} → Gives (travelling 1 k first lines s) m w m′ → Next bound k lines whole w m′
+  unfolding travelling
+  travel-one g =
+      subst (λ (v : Travelled × List ℕ). Next bound k lines whole (v .0) (v .1)) (sym (exec-bind (stepFull lines s) _ m) ∙ g)
+      (by-reason (isMade (p .0 .reason)) refl)
 
 -- ---- a run and a step by it
 

@@ -1,12 +1,14 @@
 // A step and a bounded run, after single_step and run of cpu.rs.
 ghost use mathlib.Core.Path.{_≡_};
+ghost use mathlib.Core.Bool.{false};
 ghost use Prim.Native.Nat.{_-_, _<_};
 ghost use lib.ListN.{length};
 ghost use Rattle.manual.specs.Micro.{Gives};
-ghost use Rattle.manual.specs.Outcomes.{machineOf, ended};
+ghost use Rattle.manual.specs.Outcomes.{ended};
+ghost use Rattle.manual.specs.Interrupts.{falls, due};
 ghost use Rattle.manual.specs.Stepping.{fullMemory, step, run, longRun};
-ghost use Rattle.cpu.specs.Walking.{walked, walking, level};
-ghost use Rattle.cpu.specs.Travelling.{travelled, travelling};
+ghost use Rattle.cpu.specs.Levels.{level, raised};
+ghost use Rattle.cpu.specs.Travelling.{travelled, travelling, reach};
 use dispatch::Dispatched;
 use dispatch::dispatch;
 use manual::Due;
@@ -25,41 +27,10 @@ use memory::get_byte;
 use registers::Registers;
 use stack::serve;
 
-// What the loop leaves: the run's answer so far, the address that its last step put out first, and the line that it left for.
-struct Walked {
-    ended: Ended,
-    first: u16,
-    due: Due,
-}
-
 // What a run leaves: its answer, and the address that its last step put out first.
 pub struct Travelled {
     pub ended: Ended,
     pub first: u16,
-}
-
-impl Walked {
-    // The loop leaves for a line.
-    fn for_line(vector: u16, steps: u64, machine: Machine) -> Walked
-        ensures { λ r. ⌜ r ≡ walked (Due.Through vector) 0 (ended Reason.Made steps machine) ⌝ }
-    {
-        Walked {
-            ended: Ended::new(Reason::Made, steps, machine),
-            first: 0,
-            due: Due::Through(vector),
-        }
-    }
-
-    // The loop is over.
-    fn over(reason: Reason, steps: u64, first: u16, machine: Machine) -> Walked
-        ensures { λ r. ⌜ r ≡ walked Due.Quiet first (ended reason steps machine) ⌝ }
-    {
-        Walked {
-            ended: Ended::new(reason, steps, machine),
-            first: first,
-            due: Due::Quiet,
-        }
-    }
 }
 
 impl Travelled {
@@ -81,31 +52,44 @@ fn level(from: u64, steps: u64, last: bool, present: bool) -> bool
     if from < steps { present } else { last }
 }
 
-// Steps on a full memory, after `from` and up to `bound`, or up to where a line is due. The compiler puts all that a step does
-// into this loop and keeps the registers in the host's: docs/RATE.md says what that takes. So the loop is left for a line, and
-// has no variable for the level of NMI, which can fall before the first step alone.
-fn walk(start: Machine, from: u64, bound: u64, lines: Lines, memory: &mut [u8]) -> Walked
-    requires { ⌜ (length (now memory) ≡ fullMemory) × (from < bound) ⌝ }
-    ensures { λ r. ⌜ Gives (walking (bound - from) from 0 lines start) (now (memory .entry)) r (now (memory .exit)) ⌝ }
+// What is due before an opcode.
+fn due_before(lines: Lines, machine: Machine) -> Due
+    ensures { λ r. ⌜ r ≡ due lines machine ⌝ }
 {
-    if start.nmi && !lines.nmi {
-        return Walked::for_line(NMI_VECTOR, from, start);
+    if machine.nmi && !lines.nmi {
+        return Due::Through(NMI_VECTOR);
     }
+    if !lines.irq && !machine.registers.status.disable {
+        return Due::Through(IRQ_VECTOR);
+    }
+    Due::Quiet
+}
+
+// How far the loop goes: to the bound where IRQ is high; where it is low to the next step, for after that I may be clear.
+fn reach(irq: bool, steps: u64, bound: u64) -> u64
+    requires { ⌜ steps < bound ⌝ }
+    ensures { λ r. ⌜ r ≡ reach irq steps bound ⌝ }
+{
+    if irq { bound } else { steps + 1 }
+}
+
+// Steps on a full memory, after `from` and up to `bound`, with IRQ high and an NMI that does not fall. The compiler puts all
+// that a step does into this loop and keeps the registers in the host's: docs/RATE.md says what that takes. So no line is
+// looked at in it, and the level of NMI is none of its variables.
+fn walk(start: Machine, from: u64, bound: u64, nmi: bool, memory: &mut [u8]) -> Travelled
+    requires { ⌜ (length (now memory) ≡ fullMemory) × (from < bound) × (falls (raised nmi) start ≡ false) ⌝ }
+    ensures { λ r. ⌜ Gives (travelling (bound - from) from 0 (raised nmi) start) (now (memory .entry)) r (now (memory .exit)) ⌝ }
+{
     let given = start.registers;
     let mut registers = given.kept_apart();
     let mut cycles = start.cycles;
     let mut first: u16 = 0;
     let mut steps = from;
     while steps < bound {
-        if !lines.irq && !registers.status.disable {
-            let nmi = level(from, steps, start.nmi, lines.nmi);
-            let left = Machine::new(registers, cycles, nmi);
-            return Walked::for_line(IRQ_VECTOR, steps, left);
-        }
         if HIGHEST_COUNT < cycles {
-            let nmi = level(from, steps, start.nmi, lines.nmi);
-            let left = Machine::new(registers, cycles, nmi);
-            return Walked::over(Reason::NoCycleRoom, steps, 0, left);
+            let last = level(from, steps, start.nmi, nmi);
+            let left = Machine::new(registers, cycles, last);
+            return Travelled::new(Reason::NoCycleRoom, steps, 0, left);
         }
         let opcode = get_byte(memory, Address(registers.counter));
         match dispatch(opcode, registers, memory) {
@@ -117,18 +101,18 @@ fn walk(start: Machine, from: u64, bound: u64, lines: Lines, memory: &mut [u8]) 
                 steps += 1;
             }
             Dispatched::NotAnOpcode => {
-                let nmi = level(from, steps, start.nmi, lines.nmi);
-                let left = Machine::new(registers, cycles, nmi);
-                return Walked::over(Reason::NotAnOpcode, steps, 0, left);
+                let last = level(from, steps, start.nmi, nmi);
+                let left = Machine::new(registers, cycles, last);
+                return Travelled::new(Reason::NotAnOpcode, steps, 0, left);
             }
         }
     }
-    let nmi = level(from, steps, start.nmi, lines.nmi);
     let left = Machine::new(registers, cycles, nmi);
-    Walked::over(Reason::Made, steps, first, left)
+    Travelled::new(Reason::Made, steps, first, left)
 }
 
-// At most `bound` steps on a full memory: the loop, and a line that is due served between two turns of it.
+// At most `bound` steps on a full memory: a line that is due is served, and otherwise the loop goes as far as none can become
+// due.
 pub fn travel(start: Machine, bound: u64, lines: Lines, memory: &mut [u8]) -> Travelled
     requires { ⌜ length (now memory) ≡ fullMemory ⌝ }
     ensures { λ r. ⌜ Gives (travelling bound 0 0 lines start) (now (memory .entry)) r (now (memory .exit)) ⌝ }
@@ -136,24 +120,26 @@ pub fn travel(start: Machine, bound: u64, lines: Lines, memory: &mut [u8]) -> Tr
     let mut machine = start;
     let mut steps: u64 = 0;
     while steps < bound {
-        let walked = walk(machine, steps, bound, lines, memory);
-        let ended = walked.ended;
-        let reached = ended.machine;
-        let due = walked.due;
+        let due = due_before(lines, machine);
         match due {
             Due::Through(vector) => {
-                if HIGHEST_COUNT < reached.cycles {
-                    return Travelled::new(Reason::NoCycleRoom, ended.steps, 0, reached);
+                if HIGHEST_COUNT < machine.cycles {
+                    return Travelled::new(Reason::NoCycleRoom, steps, 0, machine);
                 }
-                let registers = serve(vector, reached.registers, memory);
-                machine = Machine::new(registers, reached.cycles + 7, lines.nmi);
-                steps = ended.steps + 1;
+                let registers = serve(vector, machine.registers, memory);
+                machine = Machine::new(registers, machine.cycles + 7, lines.nmi);
+                steps += 1;
             }
             Due::Quiet => {
-                return Travelled {
-                    ended: ended,
-                    first: walked.first,
-                };
+                let stop = reach(lines.irq, steps, bound);
+                let walked = walk(machine, steps, stop, lines.nmi, memory);
+                let ended = walked.ended;
+                let reason = ended.reason;
+                if stop == bound || !reason.is_made() {
+                    return walked;
+                }
+                machine = ended.machine;
+                steps = stop;
             }
         }
     }

@@ -1,0 +1,13 @@
+-- The test is the definition's.
+use borrow.Author.Needs.{needs}
+use Rattle.cpu.proofs.reach.Statement.{statement}
+use Rattle.cpu.proofs.reach.Tie as tie
+
+returns : tie.Need-returns
+returns c = rw (c .if1 .taken)
+
+returns-2 : tie.Need-returns-2
+returns-2 c = rw (c .if1 .left)
+
+pub reach-spec : {M : Type 1} → statement M
+reach-spec = tie.close (tie.spec (search needs) returns returns-2)
