@@ -9,7 +9,6 @@ ghost use Rattle.manual.specs.Interrupts.{falls, due};
 ghost use Rattle.manual.specs.Stepping.{fullMemory, step, run, longRun};
 ghost use Rattle.cpu.specs.Levels.{level, raised};
 ghost use Rattle.cpu.specs.Travelling.{travelled, travelling, reach};
-use dispatch::Dispatched;
 use dispatch::dispatch;
 use manual::Due;
 use manual::Ended;
@@ -25,6 +24,7 @@ use manual::Stepped;
 use memory::Address;
 use memory::get_byte;
 use registers::Registers;
+use rows::Dispatched;
 use stack::serve;
 
 // What a run leaves: its answer, and the address that its last step put out first.

@@ -9,16 +9,29 @@ use Rattle.instruction.specs.Opcodes.{decoded}
 use Rattle.instruction.specs.Table.{ruled}
 use Rattle.manual.specs.declared.Lines.{Lines}
 use Rattle.manual.specs.declared.Machine.{Machine}
+use Rattle.manual.specs.declared.Stepped.{Stepped}
+use Rattle.manual.specs.declared.Reason.the-variants.{NotAnOpcode}
 use Rattle.manual.specs.declared.Due.the-variants.{Quiet}
 use Rattle.manual.specs.Micro.{exec, Gives}
+use Rattle.manual.specs.Outcomes.{refused}
 use Rattle.manual.specs.Interrupts.{due}
 use Rattle.manual.specs.Instructions.{perform}
-use Rattle.manual.specs.Stepping.{highestCount, stepFull}
+use Rattle.manual.specs.Stepping.{highestCount, made, stepFull}
 use Rattle.manual.specs.Theorems.Extra.{extra-most}
 use Rattle.manual.specs.Theorems.Programs.{exec-bind}
 use Rattle.manual.specs.Theorems.StepLaws.{opcodeOf, step-defined, step-undefined}
-use Rattle.dispatch.specs.declared.Dispatched.{Dispatched}
-use Rattle.dispatch.specs.Dispatching.{counted, dispatched, stepBy, cyclesOf}
+use Rattle.rows.specs.declared.Dispatched.{Dispatched}
+use Rattle.rows.specs.Performing.{dispatched}
+
+-- what a step answers by it
+abbrev pub stepBy : Lines → Machine → Dispatched → Stepped
+stepBy lines s (Dispatched.Performed p) = made lines s (p .first) (p .registers) (p .cycles)
+stepBy lines s Dispatched.NotAnOpcode = refused NotAnOpcode s
+
+-- the cycles that it takes
+abbrev pub cyclesOf : Dispatched → ℕ
+cyclesOf (Dispatched.Performed p) = p .cycles
+cyclesOf Dispatched.NotAnOpcode = 0
 
 -- Where there is room and no line to serve, the step is what the byte at the counter does, and it takes at most seven cycles.
 pub record StepsBy (lines : Lines) (s : Machine) (m : List ℕ) (q : Dispatched) (m′ : List ℕ) : Type 0 where

@@ -6,19 +6,17 @@ use mathlib.Core.List.{List, [], _∷_}
 use native.Mathlib.Omega.{arith}
 use borrow.Author.Tests.{ne-eqb}
 use lib.Dec.{eqb}
-use Rattle.laws.specs.Agree.{agree}
 use Rattle.registers.specs.declared.Registers.{Registers}
 use Rattle.instruction.specs.declared.Entry.{Entry}
 use Rattle.instruction.specs.declared.Decoded.{Decoded}
 use Rattle.instruction.specs.declared.Decoded.the-variants.{Defined, Undefined}
-use Rattle.instruction.specs.Opcodes.{decoded, rows}
+use Rattle.instruction.specs.Opcodes.{decoded}
 use Rattle.manual.specs.declared.Effect.{Effect}
 use Rattle.manual.specs.Micro.{done, Gives}
 use Rattle.manual.specs.Instructions.{perform}
 use Rattle.manual.specs.Theorems.Programs.{then}
-use Rattle.dispatch.specs.declared.Dispatched.{Dispatched}
-use Rattle.dispatch.specs.Dispatching.{counted, performed, dispatched}
-use Rattle.dispatch.specs.Codes.{lowCodes, highCodes}
+use Rattle.rows.specs.declared.Dispatched.{Dispatched}
+use Rattle.rows.specs.Performing.{counted, performed, dispatched}
 
 -- what an entry's instruction leaves
 pub entry-performed : (e : Entry) (r : Registers) (m : List ℕ) {f : Effect} {m′ : List ℕ} → Gives (perform (e .instruction) (e .mode) r) m f m′
@@ -49,32 +47,21 @@ rowsOf (Defined e) = 1
 rowsOf Undefined = 0
 
 -- 0 for an opcode that is in the list or has no row
-abbrev left : List ℕ → ℕ → ℕ
+abbrev pub left : List ℕ → ℕ → ℕ
 left ks k = cond (among k ks) 0 (rowsOf (decoded k))
 
 undefined-of : (d : Decoded) → rowsOf d ≡ 0 → d ≡ Undefined
 undefined-of (Defined e) p = absurd (omega (arith, p))
 undefined-of Undefined p = refl
 
-low-rows : (k : ℕ) → k < 128 → left lowCodes k ≡ 0
-unfolding decoded rows
-low-rows = agree (left lowCodes) (λ k. 0) 128 refl
-
-high-rows : (k : ℕ) → k < 128 → left highCodes (128 + k) ≡ 0
-unfolding decoded rows
-high-rows = agree (λ k. left highCodes (128 + k)) (λ k. 0) 128 refl
-
 no-row : (ks : List ℕ) (opcode : ℕ) (r : Registers) (m : List ℕ) → left ks opcode ≡ 0 → NoneOf opcode ks
     → Gives (dispatched (decoded opcode) r) m Dispatched.NotAnOpcode m
 unfolding dispatched
 no-row ks opcode r m e n = rw (undefined-of (decoded opcode) (rw (not-among opcode ks n) at e))
 
-pub no-low-row : (opcode : ℕ) (r : Registers) (m : List ℕ) → opcode < 128 → NoneOf opcode lowCodes
-    → Gives (dispatched (decoded opcode) r) m Dispatched.NotAnOpcode m
-no-low-row opcode r m h n = no-row lowCodes opcode r m (low-rows opcode h) n
-
-pub no-high-row : (opcode : ℕ) (r : Registers) (m : List ℕ) → 128 ≤ opcode → opcode < 256 → NoneOf opcode highCodes
-    → Gives (dispatched (decoded opcode) r) m Dispatched.NotAnOpcode m
-no-high-row opcode r m l h n =
-    let e : 128 + (opcode - 128) ≡ opcode = omega arith in
-    no-row highCodes opcode r m (rw e at (high-rows (opcode - 128) (omega arith))) n
+-- the same from an opcode on, by a test of the 128 that follow
+pub no-row-from : (base : ℕ) (ks : List ℕ) → ((k : ℕ) → k < 128 → left ks (base + k) ≡ 0) → (opcode : ℕ) (r : Registers) (m : List ℕ)
+    → base ≤ opcode → opcode < base + 128 → NoneOf opcode ks → Gives (dispatched (decoded opcode) r) m Dispatched.NotAnOpcode m
+no-row-from base ks h opcode r m l g n =
+    let e : base + (opcode - base) ≡ opcode = omega arith in
+    no-row ks opcode r m (rw e at (h (opcode - base) (omega arith))) n

@@ -1,17 +1,26 @@
 -- Each line is its opcode's row of the table; the opcodes without a line have none.
 use mathlib.Core.Path.{refl}
+use native.Mathlib.Omega.{arith}
 use lib.Dec.{lit≤}
 use Rattle.instruction.specs.Opcodes.{decoded, rows}
 use Rattle.opcodes.specs.Operations.{operations, operationAt, modes, modeAt}
-use Rattle.dispatch.specs.Rows.{row, no-low-row}
-use Rattle.dispatch.proofs.low.Statement.{statement}
-use Rattle.dispatch.proofs.low.Tie as tie
+use Rattle.rows.specs.Rows.{row}
+use Rattle.high_rows.specs.Codes.{no-row}
+use Rattle.high_rows.proofs.high.Statement.{statement}
+use Rattle.high_rows.proofs.high.Tie as tie
 
-pub low-spec : {M : Type 1} → statement M
+pub high-spec : {M : Type 1} → statement M
 unfolding decoded rows operationAt operations modeAt modes
-low-spec =
+high-spec =
     tie.close
     (tie.spec
+    (λ c κs. (c .before .before .before .pre .0, lit≤ tt))
+    (λ c κs. (c .before .before .before .pre .0, lit≤ tt))
+    (λ c κs. (c .before .before .before .pre .0, lit≤ tt))
+    (λ c κs. (c .before .before .before .pre .0, lit≤ tt))
+    (λ c κs. (c .before .before .before .pre .0, lit≤ tt))
+    (λ c κs. (c .before .before .before .pre .0, lit≤ tt))
+    (λ c κs. (c .before .before .before .pre .0, lit≤ tt))
     (λ c κs. (c .before .before .before .pre .0, lit≤ tt))
     (λ c κs. (c .before .before .before .pre .0, lit≤ tt))
     (λ c κs. (c .before .before .before .pre .0, lit≤ tt))
@@ -228,4 +237,18 @@ low-spec =
     (λ c. row _ _ _ _ _ (c .before .before .before .before .match .keys71) refl (c .before .before .instruct71 .ensures))
     (λ c. c .before .before .instruct72 .kept .1 .1 .1 .1 .0)
     (λ c. row _ _ _ _ _ (c .before .before .before .before .match .keys72) refl (c .before .before .instruct72 .ensures))
-    (λ c. no-low-row _ _ _ (c .before .before .pre .1) (c .match .rest)))
+    (λ c. c .before .before .instruct73 .kept .1 .1 .1 .1 .0)
+    (λ c. row _ _ _ _ _ (c .before .before .before .before .match .keys73) refl (c .before .before .instruct73 .ensures))
+    (λ c. c .before .before .instruct74 .kept .1 .1 .1 .1 .0)
+    (λ c. row _ _ _ _ _ (c .before .before .before .before .match .keys74) refl (c .before .before .instruct74 .ensures))
+    (λ c. c .before .before .instruct75 .kept .1 .1 .1 .1 .0)
+    (λ c. row _ _ _ _ _ (c .before .before .before .before .match .keys75) refl (c .before .before .instruct75 .ensures))
+    (λ c. c .before .before .instruct76 .kept .1 .1 .1 .1 .0)
+    (λ c. row _ _ _ _ _ (c .before .before .before .before .match .keys76) refl (c .before .before .instruct76 .ensures))
+    (λ c. c .before .before .instruct77 .kept .1 .1 .1 .1 .0)
+    (λ c. row _ _ _ _ _ (c .before .before .before .before .match .keys77) refl (c .before .before .instruct77 .ensures))
+    (λ c. c .before .before .instruct78 .kept .1 .1 .1 .1 .0)
+    (λ c. row _ _ _ _ _ (c .before .before .before .before .match .keys78) refl (c .before .before .instruct78 .ensures))
+    (λ c. c .before .before .instruct79 .kept .1 .1 .1 .1 .0)
+    (λ c. row _ _ _ _ _ (c .before .before .before .before .match .keys79) refl (c .before .before .instruct79 .ensures))
+    (λ c. no-row _ _ _ (omega arith) (omega arith) (c .match .rest)))

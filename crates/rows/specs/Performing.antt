@@ -1,20 +1,14 @@
--- What an opcode does to the registers and the memory, with all the cycles that it takes; and a step from it.
+-- What an opcode does to the registers and the memory, with all the cycles that it takes.
 use Prim.Native.Nat.{ℕ, _+_}
 use Rattle.registers.specs.declared.Registers.{Registers}
 use Rattle.instruction.specs.declared.Entry.{Entry}
 use Rattle.instruction.specs.declared.Decoded.{Decoded}
 use Rattle.instruction.specs.declared.Decoded.the-variants.{Defined, Undefined}
 use Rattle.opcodes.specs.Operations.{operationAt, modeAt}
-use Rattle.manual.specs.declared.Lines.{Lines}
-use Rattle.manual.specs.declared.Machine.{Machine}
-use Rattle.manual.specs.declared.Stepped.{Stepped}
 use Rattle.manual.specs.declared.Effect.{Effect}
-use Rattle.manual.specs.declared.Reason.the-variants.{NotAnOpcode}
 use Rattle.manual.specs.Micro.{Micro, done, _>>=_}
-use Rattle.manual.specs.Outcomes.{refused}
 use Rattle.manual.specs.Instructions.{perform}
-use Rattle.manual.specs.Stepping.{made}
-use Rattle.dispatch.specs.declared.Dispatched.{Dispatched}
+use Rattle.rows.specs.declared.Dispatched.{Dispatched}
 
 -- an entry of the table by the numbers of its operation and its mode
 abbrev pub entryOf : ℕ → ℕ → ℕ → Entry
@@ -32,13 +26,3 @@ performed e r = do
 unfoldable pub dispatched : Decoded → Registers → Micro Dispatched
 dispatched (Defined e) r = performed e r
 dispatched Undefined r = done Dispatched.NotAnOpcode
-
--- what a step answers by it
-abbrev pub stepBy : Lines → Machine → Dispatched → Stepped
-stepBy lines s (Dispatched.Performed p) = made lines s (p .first) (p .registers) (p .cycles)
-stepBy lines s Dispatched.NotAnOpcode = refused NotAnOpcode s
-
--- the cycles that it takes
-abbrev pub cyclesOf : Dispatched → ℕ
-cyclesOf (Dispatched.Performed p) = p .cycles
-cyclesOf Dispatched.NotAnOpcode = 0

@@ -2,9 +2,9 @@
 use native.Mathlib.Omega.{arith}
 use borrow.Author.Needs.{needs}
 use Rattle.manual.specs.Theorems.Extra.{extra-of}
-use Rattle.dispatch.specs.Rows.{entry-performed}
-use Rattle.dispatch.proofs.instruct.Statement.{statement}
-use Rattle.dispatch.proofs.instruct.Tie as tie
+use Rattle.rows.specs.Rows.{entry-performed}
+use Rattle.rows.proofs.instruct.Statement.{statement}
+use Rattle.rows.proofs.instruct.Tie as tie
 
 add-t12 : tie.Need-add-t12
 add-t12 c =
