@@ -13,4 +13,5 @@ pub mod Interrupts
 pub mod Instructions
 pub mod Stepping
 pub mod ReadList
+pub mod Spending
 pub mod Theorems

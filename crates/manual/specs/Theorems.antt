@@ -9,6 +9,7 @@ pub mod StepLaws
 pub mod Answers
 pub mod RunAnswers
 pub mod Lunch
+pub mod Spending
 pub mod Edges
 pub mod Within
 pub mod RegistersInRange

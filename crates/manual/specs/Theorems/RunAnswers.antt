@@ -116,7 +116,7 @@ ending (suc n) lines s m = go (way lines s m) (ending n lines (exec (stepFull li
     go (ready h) w = one-more n lines s m (ap reason (step-defined lines s m (h .2 .0) (h .0) (h .1) (h .2 .1) refl)) (w .2)
 
 -- what a program gives is one thing
-same : {A : Type 0} {w : A × List ℕ} (P : A → List ℕ → Type 0) {q p : A} {m′ m₀ : List ℕ} → w ≡ (p, m₀) → P p m₀ → w ≡ (q, m′) → P q m′
+pub same : {A : Type 0} {w : A × List ℕ} (P : A → List ℕ → Type 0) {q p : A} {m′ m₀ : List ℕ} → w ≡ (p, m₀) → P p m₀ → w ≡ (q, m′) → P q m′
 same P e h g = subst (λ (w : _ × List ℕ). P (w .0) (w .1)) (sym e ∙ g) h
 
 -- A run on a full memory gives what ends so, and nothing else.

@@ -126,7 +126,7 @@ unfolding runFull
 run-end k lines s m = refl
 
 -- a refusal is no step made
-not-made : (r : Reason) → (r ≡ Made → ⊥) → isMade r ≡ false
+pub not-made : (r : Reason) → (r ≡ Made → ⊥) → isMade r ≡ false
 not-made Made f = absurd (f refl)
 not-made MemoryNotFull f = refl
 not-made NoCycleRoom f = refl
