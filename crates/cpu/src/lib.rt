@@ -1,14 +1,15 @@
 // A step and a bounded run, after single_step and run of cpu.rs.
 ghost use mathlib.Core.Path.{_≡_};
-ghost use mathlib.Core.Bool.{false};
-ghost use Prim.Native.Nat.{_-_, _<_};
+ghost use mathlib.Core.Bool.{cond};
+ghost use Prim.Native.Nat.{_+_, _<_};
+ghost use lib.Dec.{ltb};
 ghost use lib.ListN.{length};
 ghost use Rattle.manual.specs.Micro.{Gives};
-ghost use Rattle.manual.specs.Outcomes.{ended};
-ghost use Rattle.manual.specs.Interrupts.{falls, due};
-ghost use Rattle.manual.specs.Stepping.{fullMemory, step, run, longRun};
-ghost use Rattle.cpu.specs.Levels.{level, raised};
-ghost use Rattle.cpu.specs.Travelling.{travelled, travelling, reach};
+ghost use Rattle.manual.specs.Outcomes.{machineOf, ended};
+ghost use Rattle.manual.specs.Interrupts.{due};
+ghost use Rattle.manual.specs.Stepping.{fullMemory, step, runFull, run, longRun};
+ghost use Rattle.cpu.specs.Travelling.{travelled, travelling};
+ghost use Rattle.cpu.specs.Turning.{raised, serving, Calm, reach, turning};
 use dispatch::dispatch;
 use manual::Due;
 use manual::Ended;
@@ -27,14 +28,14 @@ use registers::Registers;
 use rows::Dispatched;
 use stack::serve;
 
-// What a run leaves: its answer, and the address that its last step put out first.
+// What a turn leaves: the answer of its steps, and the address that the last of them put out first.
 pub struct Travelled {
     pub ended: Ended,
     pub first: u16,
 }
 
 impl Travelled {
-    // From a run's parts.
+    // From its parts.
     fn new(reason: Reason, steps: u64, first: u16, machine: Machine) -> Travelled
         ensures { λ r. ⌜ r ≡ travelled first (ended reason steps machine) ⌝ }
     {
@@ -45,17 +46,13 @@ impl Travelled {
     }
 }
 
-// The last level of NMI before a step, where `from` were made before: the first one records the present level.
-fn level(from: u64, steps: u64, last: bool, present: bool) -> bool
-    ensures { λ r. ⌜ r ≡ level from steps last present ⌝ }
-{
-    if from < steps { present } else { last }
-}
-
-// What is due before an opcode.
+// What is due before an opcode. Idle lines come first, since nothing else need be looked at then.
 fn due_before(lines: Lines, machine: Machine) -> Due
     ensures { λ r. ⌜ r ≡ due lines machine ⌝ }
 {
+    if lines.nmi && lines.irq {
+        return Due::Quiet;
+    }
     if machine.nmi && !lines.nmi {
         return Due::Through(NMI_VECTOR);
     }
@@ -65,30 +62,34 @@ fn due_before(lines: Lines, machine: Machine) -> Due
     Due::Quiet
 }
 
-// How far the loop goes: to the bound where IRQ is high; where it is low to the next step, for after that I may be clear.
-fn reach(irq: bool, steps: u64, bound: u64) -> u64
-    requires { ⌜ steps < bound ⌝ }
-    ensures { λ r. ⌜ r ≡ reach irq steps bound ⌝ }
+// A line is served, which is one step: the last level of NMI becomes `nmi`.
+fn serve_line(vector: u16, start: Registers, count: u64, nmi: bool, memory: &mut [u8]) -> Travelled
+    requires { ⌜ (length (now memory) ≡ fullMemory) × (vector + 1 < 65536) ⌝ }
+    ensures { λ r. ⌜ Gives (serving vector start count nmi) (now (memory .entry)) r (now (memory .exit)) ⌝ }
 {
-    if irq { bound } else { steps + 1 }
+    if HIGHEST_COUNT < count {
+        let left = Machine::new(start, count, nmi);
+        return Travelled::new(Reason::NoCycleRoom, 0, 0, left);
+    }
+    let registers = serve(vector, start, memory);
+    let left = Machine::new(registers, count + 7, nmi);
+    Travelled::new(Reason::Made, 1, 0, left)
 }
 
-// Steps on a full memory, after `from` and up to `bound`, with IRQ high and an NMI that does not fall. The compiler puts all
-// that a step does into this loop and keeps the registers in the host's: docs/RATE.md says what that takes. So no line is
-// looked at in it, and the level of NMI is none of its variables.
-fn walk(start: Machine, from: u64, bound: u64, nmi: bool, memory: &mut [u8]) -> Travelled
-    requires { ⌜ (length (now memory) ≡ fullMemory) × (from < bound) × (falls (raised nmi) start ≡ false) ⌝ }
-    ensures { λ r. ⌜ Gives (travelling (bound - from) from 0 (raised nmi) start) (now (memory .entry)) r (now (memory .exit)) ⌝ }
+// At most `bound` steps on a full memory with IRQ high and NMI at the level that it had before. The compiler puts all that a
+// step does into this loop and keeps the registers in the host's: docs/RATE.md says what that takes. So no line is looked at
+// in it, and the level of NMI is none of its variables.
+fn walk(start: Registers, count: u64, nmi: bool, bound: u64, memory: &mut [u8]) -> Travelled
+    requires { ⌜ length (now memory) ≡ fullMemory ⌝ }
+    ensures { λ r. ⌜ Gives (travelling bound 0 0 (raised nmi) (machineOf start count nmi)) (now (memory .entry)) r (now (memory .exit)) ⌝ }
 {
-    let given = start.registers;
-    let mut registers = given.kept_apart();
-    let mut cycles = start.cycles;
+    let mut registers = start.kept_apart();
+    let mut cycles = count;
     let mut first: u16 = 0;
-    let mut steps = from;
+    let mut steps: u64 = 0;
     while steps < bound {
         if HIGHEST_COUNT < cycles {
-            let last = level(from, steps, start.nmi, nmi);
-            let left = Machine::new(registers, cycles, last);
+            let left = Machine::new(registers, cycles, nmi);
             return Travelled::new(Reason::NoCycleRoom, steps, 0, left);
         }
         let opcode = get_byte(memory, Address(registers.counter));
@@ -101,8 +102,7 @@ fn walk(start: Machine, from: u64, bound: u64, nmi: bool, memory: &mut [u8]) -> 
                 steps += 1;
             }
             Dispatched::NotAnOpcode => {
-                let last = level(from, steps, start.nmi, nmi);
-                let left = Machine::new(registers, cycles, last);
+                let left = Machine::new(registers, cycles, nmi);
                 return Travelled::new(Reason::NotAnOpcode, steps, 0, left);
             }
         }
@@ -111,52 +111,69 @@ fn walk(start: Machine, from: u64, bound: u64, nmi: bool, memory: &mut [u8]) -> 
     Travelled::new(Reason::Made, steps, first, left)
 }
 
-// At most `bound` steps on a full memory: a line that is due is served, and otherwise the loop goes as far as none can become
-// due.
-pub fn travel(start: Machine, bound: u64, lines: Lines, memory: &mut [u8]) -> Travelled
+// How far a turn goes at most: where IRQ is low by one step, for after it I may be clear.
+pub fn reach(irq: bool, bound: u64) -> u64
+    ensures { λ r. ⌜ r ≡ reach irq bound ⌝ }
+{
+    if irq { bound } else { 1 }
+}
+
+// A turn: a line that is due is served, or steps are made, as many as no line can become due between. The machine that it
+// leaves has the present level of NMI, also where no step was made: then it is the one that was given that counts.
+pub fn turn(start: Machine, bound: u64, lines: Lines, memory: &mut [u8]) -> Travelled
+    requires { ⌜ (length (now memory) ≡ fullMemory) × Calm lines bound ⌝ }
+    ensures { λ r. ⌜ Gives (turning bound lines start) (now (memory .entry)) r (now (memory .exit)) ⌝ }
+{
+    let due = due_before(lines, start);
+    match due {
+        Due::Through(vector) => {
+            serve_line(vector, start.registers, start.cycles, lines.nmi, memory)
+        }
+        Due::Quiet => walk(start.registers, start.cycles, lines.nmi, bound, memory),
+    }
+}
+
+// The machine after a turn: where no step was made, the one before it.
+fn reached(start: Machine, ended: Ended) -> Machine
+    ensures { λ r. ⌜ r ≡ cond (ltb 0 (ended .steps)) (ended .machine) start ⌝ }
+{
+    if 0 < ended.steps {
+        ended.machine
+    } else {
+        start
+    }
+}
+
+// At most `bound` steps on a full memory, turn by turn.
+fn travel(start: Machine, bound: u64, lines: Lines, memory: &mut [u8]) -> Ended
     requires { ⌜ length (now memory) ≡ fullMemory ⌝ }
-    ensures { λ r. ⌜ Gives (travelling bound 0 0 lines start) (now (memory .entry)) r (now (memory .exit)) ⌝ }
+    ensures { λ r. ⌜ Gives (runFull bound 0 lines start) (now (memory .entry)) r (now (memory .exit)) ⌝ }
 {
     let mut machine = start;
     let mut steps: u64 = 0;
     while steps < bound {
-        let due = due_before(lines, machine);
-        match due {
-            Due::Through(vector) => {
-                if HIGHEST_COUNT < machine.cycles {
-                    return Travelled::new(Reason::NoCycleRoom, steps, 0, machine);
-                }
-                let registers = serve(vector, machine.registers, memory);
-                machine = Machine::new(registers, machine.cycles + 7, lines.nmi);
-                steps += 1;
-            }
-            Due::Quiet => {
-                let stop = reach(lines.irq, steps, bound);
-                let walked = walk(machine, steps, stop, lines.nmi, memory);
-                let ended = walked.ended;
-                let reason = ended.reason;
-                if stop == bound || !reason.is_made() {
-                    return walked;
-                }
-                machine = ended.machine;
-                steps = stop;
-            }
+        let ended = turn(machine, reach(lines.irq, bound - steps), lines, memory).ended;
+        let reason = ended.reason;
+        machine = reached(machine, ended);
+        steps += ended.steps;
+        if !reason.is_made() {
+            return Ended::new(reason, steps, machine);
         }
     }
-    Travelled::new(Reason::Made, steps, 0, machine)
+    Ended::new(Reason::Made, steps, machine)
 }
 
-// A step: a run of one.
+// A step: a turn of one.
 pub fn single_step(machine: Machine, lines: Lines, memory: &mut [u8]) -> Stepped
     ensures { λ r. ⌜ Gives (step (length (now (memory .entry))) lines machine) (now (memory .entry)) r (now (memory .exit)) ⌝ }
 {
     if memory.len() != FULL_MEMORY {
         return Stepped::new(Reason::MemoryNotFull, 0, machine);
     }
-    let travelled = travel(machine, 1, lines, memory);
-    let ended = travelled.ended;
+    let turned = turn(machine, 1, lines, memory);
+    let ended = turned.ended;
     let reason = ended.reason;
-    Stepped::new(reason, travelled.first, ended.machine)
+    Stepped::new(reason, turned.first, reached(machine, ended))
 }
 
 // A run of at most `bound` steps.
@@ -169,7 +186,7 @@ pub fn run(machine: Machine, bound: u64, lines: Lines, memory: &mut [u8]) -> End
     if HIGHEST_BOUND < bound {
         return Ended::new(Reason::BoundTooHigh, 0, machine);
     }
-    travel(machine, bound, lines, memory).ended
+    travel(machine, bound, lines, memory)
 }
 
 // A run of any number of steps: a run of a million and then of another million is no other (the theorem `lunch`).
@@ -179,5 +196,5 @@ pub fn long_run(machine: Machine, steps: u64, lines: Lines, memory: &mut [u8]) -
     if memory.len() != FULL_MEMORY {
         return Ended::new(Reason::MemoryNotFull, 0, machine);
     }
-    travel(machine, steps, lines, memory).ended
+    travel(machine, steps, lines, memory)
 }

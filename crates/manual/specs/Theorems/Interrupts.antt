@@ -70,7 +70,7 @@ high-and-low true = refl
 high-and-low false = refl
 
 -- so do the steps of a run
-led-level : (k : ℕ) (lines : Lines) (s : Machine) (m : List ℕ) (s′ : Machine) (m′ : List ℕ) → Leads (suc k) lines s m s′ m′
+pub led-level : (k : ℕ) (lines : Lines) (s : Machine) (m : List ℕ) (s′ : Machine) (m′ : List ℕ) → Leads (suc k) lines s m s′ m′
     → s′ .nmi ≡ lines .nmi
 led-level zero lines s m s′ m′ h = ap (λ (q : Machine). q .nmi) (sym (h .4 .0)) ∙ recorded lines s m (h .2) (ap isMade (h .3))
 led-level (suc k) lines s m s′ m′ h = led-level k lines (h .0 .machine) (h .1) s′ m′ (h .4)

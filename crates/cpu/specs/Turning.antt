@@ -1,0 +1,271 @@
+-- A turn: the service of a line, or as many steps as no line can become due between; and a run by its turns.
+use Prim.Native.Nat.{ℕ, zero, suc, _+_, _-_, _≤_, _<_}
+use mathlib.Core.Path.{_≡_, refl, ap, sym, _∙_}
+use mathlib.Core.Bool.{Bool, true, false, not, cond, _&&_}
+use mathlib.Core.Logic.{_⊎_, inl, inr}
+use mathlib.Core.List.{List}
+use native.Mathlib.Omega.{arith}
+use native.Mathlib.Decide.{decLt}
+use lib.Dec.{ltb}
+use borrow.Author.Tests.{lt-ltb, le-ltb}
+use Rattle.registers.specs.declared.Registers.{Registers}
+use Rattle.manual.specs.declared.Lines.{Lines}
+use Rattle.manual.specs.declared.Machine.{Machine}
+use Rattle.manual.specs.declared.Due.{Due}
+use Rattle.manual.specs.declared.Due.the-variants.{Through, Quiet}
+use Rattle.manual.specs.declared.Ended.{Ended}
+use Rattle.manual.specs.declared.Reason.the-variants.{Made, NoCycleRoom}
+use Rattle.manual.specs.Micro.{Micro, done, _>>=_, exec, Gives}
+use Rattle.manual.specs.Outcomes.{machineOf, isMade, stepped, ended}
+use Rattle.manual.specs.Interrupts.{served, falls, due}
+use Rattle.manual.specs.Stepping.{highestCount, stepFull, runFull}
+use Rattle.manual.specs.Theorems.Programs.{exec-bind, then}
+use Rattle.manual.specs.Theorems.StepLaws.{due-none, step-late, step-serves, step-undefined, step-defined}
+use Rattle.manual.specs.Theorems.Answers.{Way, late, serves, undefined, ready, way, not-quiet}
+use Rattle.manual.specs.Theorems.RunAnswers.{Leads, Ends, all-made, no-cycle-room, not-an-opcode, run-ends}
+use Rattle.manual.specs.Theorems.Interrupts.{led-level}
+use Rattle.manual.specs.Theorems.Lunch.{added, full-lunch, full-stopped}
+use Rattle.cpu.specs.declared.Travelled.{Travelled}
+use Rattle.cpu.specs.Travelling.{travelled, travelling, travel-end, travel-made, travel-halts, travel-run, travel-step}
+
+-- IRQ high, and NMI at a level
+abbrev pub raised : Bool → Lines
+raised nmi = record { irq = true; nmi = nmi }
+
+abbrev pub levelled : Bool → Machine → Machine
+levelled nmi s = machineOf (s .registers) (s .cycles) nmi
+
+-- the machine that is left has the present level of NMI, also where no step was made
+abbrev pub recording : Lines → Travelled → Travelled
+recording lines w = travelled (w .first) (ended (w .ended .reason) (w .ended .steps) (levelled (lines .nmi) (w .ended .machine)))
+
+-- a line is served by one step
+abbrev pub stretch : Due → ℕ → ℕ
+stretch (Through vector) n = 1
+stretch Quiet n = n
+
+unfoldable pub turning : ℕ → Lines → Machine → Micro Travelled
+turning n lines s = do
+  w ← travelling (stretch (due lines s) n) 0 0 lines s
+  done (recording lines w)
+
+-- between the steps of a turn no line can become due: IRQ is high, or there is one step
+abbrev pub Calm : Lines → ℕ → Type 0
+Calm lines n = (lines .irq ≡ true) ⊎ (n ≡ 1)
+
+abbrev pub reach : Bool → ℕ → ℕ
+reach irq bound = cond irq bound 1
+
+-- the service of a line alone
+unfoldable pub serving : ℕ → Registers → ℕ → Bool → Micro Travelled
+serving vector r count nmi =
+    cond (ltb highestCount count) (done (travelled 0 (ended NoCycleRoom 0 (machineOf r count nmi)))) (do
+      r₁ ← served vector r
+      done (travelled 0 (ended Made 1 (machineOf r₁ (count + 7) nmi))))
+
+-- ---- a turn by what is due
+
+pub turn-gives : (n : ℕ) (lines : Lines) (s : Machine) (m : List ℕ) {w : Travelled} {m′ : List ℕ} → Gives (travelling (stretch (due lines s) n) 0 0 lines s) m w m′
+    → Gives (turning n lines s) m (recording lines w) m′
+unfolding turning
+turn-gives n lines s m g = then (travelling (stretch (due lines s) n) 0 0 lines s) _ m g refl
+
+-- a step of a turn in which a line is due
+one-of : (d : Due) (n vector : ℕ) → d ≡ Through vector → stretch d n ≡ 1
+one-of (Through v) n vector e = refl
+one-of Quiet n vector e = absurd (not-quiet Quiet vector refl e)
+
+module _ (n : ℕ) (lines : Lines) (s : Machine) (m : List ℕ) (vector : ℕ) (e : due lines s ≡ Through vector) where
+  abbrev one : ℕ
+  one = stretch (due lines s) n
+
+  serve-late : highestCount < s .cycles → exec (turning n lines s) m ≡ exec (serving vector (s .registers) (s .cycles) (lines .nmi)) m
+  unfolding serving
+  serve-late h =
+      turn-gives n lines s m (rw (one-of (due lines s) n vector e) (travel-halts lines s m _ m (step-late lines s m h) 0 0 0 refl))
+      ∙ rw (lt-ltb highestCount (s .cycles) h)
+
+  serve-made : s .cycles ≤ highestCount → exec (turning n lines s) m ≡ exec (serving vector (s .registers) (s .cycles) (lines .nmi)) m
+  unfolding serving
+  serve-made h =
+      let w = exec (served vector (s .registers)) m in
+      turn-gives n lines s m
+      (rw (one-of (due lines s) n vector e) (travel-made lines s m _ (w .1) (step-serves lines s m vector h e {r = w .0} refl) 0 0 0 refl ∙ travel-end _ _ _ _ _))
+      ∙ rw (le-ltb highestCount (s .cycles) h) (sym (exec-bind (served vector (s .registers)) _ m))
+
+  -- a line that is due is served
+  pub turn-serves : exec (turning n lines s) m ≡ exec (serving vector (s .registers) (s .cycles) (lines .nmi)) m
+  turn-serves = by-room (decLt highestCount (s .cycles))
+    where
+      by-room : Dec (highestCount < s .cycles) → exec (turning n lines s) m ≡ exec (serving vector (s .registers) (s .cycles) (lines .nmi)) m
+      by-room (yes h) = serve-late h
+      by-room (no f) = serve-made (omega arith)
+
+-- nothing is due with IRQ high and a level of NMI that stays
+pub raised-quiet : (nmi : Bool) (r : Registers) (cycles : ℕ) → due (raised nmi) (machineOf r cycles nmi) ≡ Quiet
+raised-quiet nmi r cycles = due-none (raised nmi) (machineOf r cycles nmi) (high-and-low nmi) refl
+  where
+    high-and-low : (high : Bool) → (high && not high) ≡ false
+    high-and-low true = refl
+    high-and-low false = refl
+
+levelOf : Travelled × List ℕ → Bool
+levelOf w = w .0 .ended .machine .nmi
+
+-- where the last level is the present one it stays so
+held : (n k first : ℕ) (lines : Lines) (s : Machine) (m : List ℕ) → s .nmi ≡ lines .nmi → levelOf (exec (travelling n k first lines s) m) ≡ lines .nmi
+unfolding levelOf
+held zero k first lines s m e = ap levelOf (travel-end k first lines s m) ∙ e
+held (suc n) k first lines s m e = by-way (way lines s m)
+  where
+    by-way : Way lines s m → levelOf (exec (travelling (suc n) k first lines s) m) ≡ lines .nmi
+    by-way (late h) = ap levelOf (travel-halts lines s m _ m (step-late lines s m h) n k first refl) ∙ e
+    by-way (serves h) =
+        ap levelOf (travel-made lines s m _ _ (step-serves lines s m (h .1 .0) (h .0) (h .1 .1) refl) n k first refl) ∙ held n (k + 1) _ lines _ _ refl
+    by-way (undefined h) = ap levelOf (travel-halts lines s m _ m (step-undefined lines s m (h .0) (h .1) (h .2)) n k first refl) ∙ e
+    by-way (ready h) =
+        ap levelOf (travel-made lines s m _ _ (step-defined lines s m (h .2 .0) (h .0) (h .1) (h .2 .1) refl) n k first refl) ∙ held n (k + 1) _ lines _ _ refl
+
+-- then a turn has nothing to record
+abbrev recordedIn : Lines → Travelled × List ℕ → Travelled × List ℕ
+recordedIn lines w = (recording lines (w .0), w .1)
+
+recorded-so : (lines : Lines) (w : Travelled × List ℕ) → levelOf w ≡ lines .nmi → recordedIn lines w ≡ w
+unfolding levelOf
+recorded-so lines w e =
+    ap (λ (nmi : Bool). (travelled (w .0 .first) (ended (w .0 .ended .reason) (w .0 .ended .steps) (levelled nmi (w .0 .ended .machine))), w .1)) (sym e)
+
+was-high : (lines : Lines) → lines .irq ≡ true → lines ≡ raised (lines .nmi)
+was-high lines e = ap (λ (irq : Bool). record { irq = irq; nmi = lines .nmi }) e
+
+module _ (lines : Lines) (s : Machine) (m : List ℕ) (e : due lines s ≡ Quiet) where
+  abbrev nmi : Bool
+  nmi = lines .nmi
+
+  abbrev as : Machine
+  as = levelled nmi s
+
+  abbrev Same : ℕ → Type 0
+  Same n = exec (turning n lines s) m ≡ exec (travelling n 0 0 (raised nmi) as) m
+
+  all-of : (n : ℕ) → stretch (due lines s) n ≡ n
+  all-of n = rw e
+
+  -- what follows the first step
+  rest : (n first : ℕ) (s₁ : Machine) (m₁ : List ℕ) → Calm lines (suc n) → s₁ .nmi ≡ nmi
+      → recordedIn lines (exec (travelling n 1 first lines s₁) m₁) ≡ exec (travelling n 1 first (raised nmi) s₁) m₁
+  rest n first s₁ m₁ (inl high) level =
+      recorded-so lines (exec (travelling n 1 first lines s₁) m₁) (held n 1 first lines s₁ m₁ level)
+      ∙ ap (λ (l : Lines). exec (travelling n 1 first l s₁) m₁) (was-high lines high)
+  rest n first s₁ m₁ (inr one) level =
+      let none : n ≡ 0 = omega arith in
+      recorded-so lines (exec (travelling n 1 first lines s₁) m₁) (held n 1 first lines s₁ m₁ level)
+      ∙ rw none (travel-end 1 first lines s₁ m₁ ∙ sym (travel-end 1 first (raised nmi) s₁ m₁))
+
+  by-first : (n : ℕ) → Calm lines (suc n) → Way lines s m → Same (suc n)
+  by-first n calm (late h) =
+      turn-gives (suc n) lines s m (rw (all-of (suc n)) (travel-halts lines s m _ m (step-late lines s m h) n 0 0 refl))
+      ∙ sym (travel-halts (raised nmi) as m _ m (step-late (raised nmi) as m h) n 0 0 refl)
+  by-first n calm (serves h) = absurd (not-quiet (due lines s) (h .1 .0) e (h .1 .1))
+  by-first n calm (undefined h) =
+      turn-gives (suc n) lines s m (rw (all-of (suc n)) (travel-halts lines s m _ m (step-undefined lines s m (h .0) (h .1) (h .2)) n 0 0 refl))
+      ∙ sym (travel-halts (raised nmi) as m _ m (step-undefined (raised nmi) as m (h .0) (raised-quiet nmi (s .registers) (s .cycles)) (h .2)) n 0 0 refl)
+  by-first n calm (ready h) =
+      turn-gives (suc n) lines s m (rw (all-of (suc n)) (travel-made lines s m _ _ (step-defined lines s m (h .2 .0) (h .0) e (h .2 .1) refl) n 0 0 refl))
+      ∙ rest n _ _ _ calm refl
+      ∙ sym (travel-made (raised nmi) as m _ _ (step-defined (raised nmi) as m (h .2 .0) (h .0) (raised-quiet nmi (s .registers) (s .cycles)) (h .2 .1) refl) n 0 0 refl)
+
+  -- where none is due, a turn is steps with IRQ high and NMI at the present level throughout
+  pub turn-walks : (n : ℕ) → Calm lines n → exec (turning n lines s) m ≡ exec (travelling n 0 0 (raised nmi) as) m
+  turn-walks zero calm = turn-gives zero lines s m (rw (all-of zero) (travel-end 0 0 lines s m)) ∙ sym (travel-end 0 0 (raised nmi) as m)
+  turn-walks (suc n) calm = by-first n calm (way lines s m)
+
+-- ---- a step and a run by turns
+
+-- the machine that a run leaves: where it made a step it has the present level, and otherwise it is the one that was given
+settles : (n : ℕ) (lines : Lines) (s : Machine) (m : List ℕ) {q : Ended} {m′ : List ℕ} → Ends n lines s m q m′
+    → cond (ltb 0 (q .steps)) (levelled (lines .nmi) (q .machine)) s ≡ q .machine
+settles n lines s m end = by-end end
+  where
+    by-steps : (k : ℕ) (s′ : Machine) (m′ : List ℕ) → Leads k lines s m s′ m′ → cond (ltb 0 k) (levelled (lines .nmi) s′) s ≡ s′
+    by-steps zero s′ m′ led = led .0
+    by-steps (suc k) s′ m′ led =
+        rw (lt-ltb 0 (suc k) (omega arith)) (ap (λ (nmi : Bool). levelled nmi s′) (sym (led-level k lines s m s′ m′ led)))
+
+    by-end : {q : Ended} {m′ : List ℕ} → Ends n lines s m q m′ → cond (ltb 0 (q .steps)) (levelled (lines .nmi) (q .machine)) s ≡ q .machine
+    by-end (all-made {s′} {m′} led) = by-steps n s′ m′ led
+    by-end (no-cycle-room {k} {s′} {m′} l led r) = by-steps k s′ m′ led
+    by-end (not-an-opcode {k} {s′} {m′} l led r) = by-steps k s′ m′ led
+
+-- the answer of a turn, with the machine that counts
+abbrev pub settled : Machine → Ended → Ended
+settled s q = ended (q .reason) (q .steps) (cond (ltb 0 (q .steps)) (q .machine) s)
+
+module _ (n : ℕ) (lines : Lines) (s : Machine) (m : List ℕ) {r : Travelled} {m′ : List ℕ} (g : Gives (turning n lines s) m r m′) where
+  abbrev size : ℕ
+  size = stretch (due lines s) n
+
+  abbrev w : Travelled × List ℕ
+  w = exec (travelling size 0 0 lines s) m
+
+  told : recordedIn lines w ≡ (r, m′)
+  unfolding turning
+  told = sym (exec-bind (travelling size 0 0 lines s) _ m) ∙ g
+
+  -- the steps that a turn makes are those of the definition
+  pub turned : Gives (travelling size 0 0 lines s) m (travelled (r .first) (settled s (r .ended))) m′
+  turned =
+      ap (λ (q : Machine). (travelled (w .0 .first) (ended (w .0 .ended .reason) (w .0 .ended .steps) q), w .1))
+      (sym (settles size lines s m (run-ends size lines s m {q = w .0 .ended} {m′ = w .1} (travel-run size 0 0 lines s m {w = w .0} {m′ = w .1} refl))))
+      ∙ ap (λ (v : Travelled × List ℕ). (travelled (v .0 .first) (settled s (v .0 .ended)), v .1)) told
+
+one-step : (d : Due) → stretch d 1 ≡ 1
+one-step (Through vector) = refl
+one-step Quiet = refl
+
+-- a turn of one is a step
+pub turn-step : (lines : Lines) (s : Machine) (m : List ℕ) {r : Travelled} {m′ : List ℕ} → Gives (turning 1 lines s) m r m′
+    → Gives (stepFull lines s) m (stepped (r .ended .reason) (r .first) (settled s (r .ended) .machine)) m′
+turn-step lines s m g = travel-step 0 lines s m (rw (one-step (due lines s)) at (turned 1 lines s m g))
+
+-- how far a turn goes of n steps
+module _ (lines : Lines) (s : Machine) (n : ℕ) (l : 0 < n) where
+  pub reach-calm : Calm lines (reach (lines .irq) n)
+  reach-calm = by-level (lines .irq) refl
+    where
+      by-level : (irq : Bool) → lines .irq ≡ irq → (lines .irq ≡ true) ⊎ (reach irq n ≡ 1)
+      by-level true e = inl e
+      by-level false e = inr refl
+
+  abbrev pub far : ℕ
+  far = stretch (due lines s) (reach (lines .irq) n)
+
+  some : (d : Due) (irq : Bool) → (0 < stretch d (reach irq n)) × (stretch d (reach irq n) ≤ n)
+  some (Through vector) irq = (omega arith, omega arith)
+  some Quiet true = (l, omega arith)
+  some Quiet false = (omega arith, omega arith)
+
+  module _ (m : List ℕ) {r : Travelled} {m′ : List ℕ} (g : Gives (turning (reach (lines .irq) n) lines s) m r m′) where
+    abbrev q : Ended
+    q = settled s (r .ended)
+
+    gone : Gives (runFull far 0 lines s) m q m′
+    gone = travel-run far 0 0 lines s m (turned (reach (lines .irq) n) lines s m g)
+
+    -- where it was stopped, so is the run
+    pub turn-stops : (q .reason ≡ Made → ⊥) → Gives (runFull n 0 lines s) m q m′
+    turn-stops f =
+        let e : far + (n - far) ≡ n = omega (arith, some (due lines s) (lines .irq) .1) in
+        rw e at (full-stopped far (n - far) lines s m gone f)
+
+    steps-of : {p : Ended} {e : List ℕ} → Ends far lines s m p e → p .reason ≡ Made → p .steps ≡ far
+    steps-of (all-made led) h = refl
+    steps-of (no-cycle-room l led r) h = let z : _≡_ {A = ℕ} 0 1 = cc in absurd (omega arith)
+    steps-of (not-an-opcode l led r) h = let z : _≡_ {A = ℕ} 0 1 = cc in absurd (omega arith)
+
+    -- where it was not, the run goes on from the machine that it left, and it has made a step
+    pub turn-goes : q .reason ≡ Made → (0 < q .steps) × (q .steps ≤ n) × (exec (runFull n 0 lines s) m ≡ added (q .steps) (exec (runFull (n - q .steps) 0 lines (q .machine)) m′))
+    turn-goes h =
+        let made : q .steps ≡ far = steps-of (run-ends far lines s m gone) h in
+        let e : far + (n - q .steps) ≡ n = omega (arith, some (due lines s) (lines .irq) .1) in
+        (omega (arith, some (due lines s) (lines .irq) .0), omega (arith, some (due lines s) (lines .irq) .1), rw e at (full-lunch far (n - q .steps) lines s m gone h))
