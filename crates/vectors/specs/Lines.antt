@@ -13,10 +13,12 @@ use Rattle.reading.specs.Numbers.{nowhere, byteAt, wordAt, countAt, markAt}
 unfoldable pub spacedByteAt : List ℕ → ℕ → Byte
 spacedByteAt s at = byteAt s (markAt 32 s at)
 
--- `PC A X Y S P CYCLES`
+-- `NN LV PC A X Y S P CYCLES`: before a step NN is the opcode, after it the answer
 unfoldable pub stateAt : List ℕ → ℕ → State
 stateAt s at =
-    let counter = wordAt s at in
+    let number = byteAt s at in
+    let levels = spacedByteAt s (number .next) in
+    let counter = wordAt s (markAt 32 s (levels .next)) in
     let accumulator = spacedByteAt s (counter .next) in
     let x = spacedByteAt s (accumulator .next) in
     let y = spacedByteAt s (x .next) in
@@ -24,6 +26,8 @@ stateAt s at =
     let status = spacedByteAt s (stack .next) in
     let cycles = countAt s (markAt 32 s (status .next)) in
     record {
+      number = number .value;
+      levels = levels .value;
       counter = counter .value;
       accumulator = accumulator .value;
       x = x .value;

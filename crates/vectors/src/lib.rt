@@ -1,9 +1,10 @@
 // The text of a replayed step, one step a line:
 //
-//   OP PC A X Y S P CYCLES | BB@AAAA .. | PC A X Y S P CYCLES | BB@AAAA ..
+//   OP LV PC A X Y S P CYCLES | BB@AAAA .. | AN LV PC A X Y S P CYCLES | BB@AAAA ..
 //
-// the opcode and the state before, the bytes of memory before, the state after, and the bytes that the step stored.
-// Numbers are in capital hexadecimal, the cycles in decimal; a byte that has no cell in the first list is 00.
+// the opcode and the state before, the bytes of memory before, the answer and the state after, and the bytes that the step
+// stored. Numbers are in capital hexadecimal, the cycles in decimal; a byte that has no cell in the first list is 00. Of the
+// levels, LV, bit 0 is set where NMI is low, bit 1 where IRQ is, and bit 2 where NMI was low at the last step that was made.
 ghost use mathlib.Core.Path.{_≡_};
 ghost use Prim.Native.Nat.{_<_};
 ghost use lib.ListN.{length, set};
@@ -15,8 +16,11 @@ use reading::read_count;
 use reading::read_mark;
 use reading::read_word;
 
-// A state as a line has it, its status as PHP pushes it, and where the text goes on.
+// A state as a line has it, and where the text goes on. Its number is the opcode before a step, and the answer after it; the
+// status is as PHP pushes it.
 pub struct State {
+    pub number: u8,
+    pub levels: u8,
     pub counter: u16,
     pub accumulator: u8,
     pub x: u8,
@@ -44,7 +48,9 @@ fn read_spaced_byte(text: &[u8], at: usize) -> Byte
 pub fn read_state(text: &[u8], at: usize) -> State
     ensures { λ r. ⌜ r ≡ stateAt (now (text .entry)) at ⌝ }
 {
-    let counter = read_word(text, at);
+    let number = read_byte(text, at);
+    let levels = read_spaced_byte(text, number.next);
+    let counter = read_word(text, read_mark(text, levels.next, b' '));
     let accumulator = read_spaced_byte(text, counter.next);
     let x = read_spaced_byte(text, accumulator.next);
     let y = read_spaced_byte(text, x.next);
@@ -52,6 +58,8 @@ pub fn read_state(text: &[u8], at: usize) -> State
     let status = read_spaced_byte(text, stack.next);
     let cycles = read_count(text, read_mark(text, status.next, b' '));
     State {
+        number: number.value,
+        levels: levels.value,
         counter: counter.value,
         accumulator: accumulator.value,
         x: x.value,

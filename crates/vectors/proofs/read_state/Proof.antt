@@ -8,19 +8,25 @@ unfolding stateAt
 returns c =
     rw (
       c .read-count .ensures,
-      c .before .read-mark .ensures,
-      c .before .before .read-spaced-byte5 .ensures,
-      c .before .before .before .read-spaced-byte4 .ensures,
-      c .before .before .before .before .read-spaced-byte3 .ensures,
-      c .before .before .before .before .before .read-spaced-byte2 .ensures,
-      c .before .before .before .before .before .before .read-spaced-byte .ensures,
+      c .before .read-mark2 .ensures,
+      c .before .before .read-spaced-byte6 .ensures,
+      c .before .before .before .read-spaced-byte5 .ensures,
+      c .before .before .before .before .read-spaced-byte4 .ensures,
+      c .before .before .before .before .before .read-spaced-byte3 .ensures,
+      c .before .before .before .before .before .before .read-spaced-byte2 .ensures,
       c .before .before .before .before .before .before .before .read-word .ensures,
+      c .before .before .before .before .before .before .before .before .read-mark .ensures,
+      c .before .before .before .before .before .before .before .before .before .read-spaced-byte .ensures,
+      c .before .before .before .before .before .before .before .before .before .before .read-byte .ensures,
     )
 
 pub read-state-spec : {M : Type 1} → statement M
 read-state-spec =
     tie.close
     (tie.spec
+    (λ c κs. tt)
+    (λ c κs. tt)
+    (λ c κs. tt)
     (λ c κs. tt)
     (λ c κs. tt)
     (λ c κs. tt)
