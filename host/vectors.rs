@@ -1,5 +1,5 @@
-//! Writes steps of the Rust of docs/src, one a line, for a program that replays them; and steps that serve a line, which the
-//! Rust does otherwise, by the rules.
+//! Writes steps of the Rust of docs/src, one a line, for a program that replays them; and by the rules alone those that serve a
+//! line, which the Rust does otherwise, and those that are refused.
 
 use std::convert::Infallible;
 use std::process::ExitCode;
@@ -91,48 +91,122 @@ fn enough(mut cases: Vec<Case>, wanted: usize, random: &mut Random) -> Vec<Case>
     cases
 }
 
-/// So many cases of every combination of the levels, the last one of NMI and I. Where a line is due, every other byte at the
-/// counter is no opcode.
+/// The highest count of cycles from which a step is made.
+const HIGHEST_COUNT: u64 = u64::MAX - 7;
+/// What is set of a random state and its opcode.
+type Edge = fn(&mut State, &mut u8);
+
+/// Where a step with lines ends or turns over: S, the counter, the cycles, and a byte that is no opcode.
+const LINE_EDGES: [Edge; 7] = [
+    |state, _| state.stack = 0x00,
+    |state, _| state.stack = 0x01,
+    |state, _| state.stack = 0x02,
+    |state, _| state.counter = 0xFFFF,
+    |state, _| state.cycles = HIGHEST_COUNT,
+    |state, _| state.cycles = HIGHEST_COUNT + 1,
+    |_, opcode| *opcode = 0x02,
+];
+
+/// So many random cases of every combination of the levels, the last one of NMI and I, then one of each edge.
 fn with_lines(random: &mut Random, of_levels: usize) -> Vec<Case> {
     let opcodes: Vec<Entry> = rules::all().collect();
+    let mut edges: Vec<Edge> = vec![|_, _| {}; of_levels];
+    edges.extend(LINE_EDGES);
     let mut cases = Vec::new();
     for lines in Lines::all() {
         for mask in [0, State::MASK] {
-            let wanted = cases.len() + of_levels;
-            while cases.len() < wanted {
-                let entry = opcodes[random.below(opcodes.len())];
-                let mut case = random.case(entry);
-                case.lines = lines;
-                case.state.status = case.state.status & !State::MASK | mask;
-                if lines.due(&case.state).is_some() && cases.len() % 2 == 0 {
-                    case.put_code(&[0x02]);
-                }
-                case.fill(random);
-                if known::cause(&case).is_none() {
-                    cases.push(case);
-                }
+            for edge in &edges {
+                let drawn = std::iter::repeat_with(|| {
+                    let mut opcode = opcodes[random.below(opcodes.len())].opcode;
+                    let mut case = Case {
+                        lines,
+                        ..Case::new(random.state())
+                    };
+                    case.state.status = case.state.status & !State::MASK | mask;
+                    case.state.cycles = count(random);
+                    edge(&mut case.state, &mut opcode);
+                    case.put_code(&[opcode]);
+                    case.fill(random);
+                    case
+                });
+                let mut unlisted = drawn.filter(|case| known::cause(case).is_none());
+                cases.extend(unlisted.next());
             }
         }
     }
     cases
 }
 
-/// The state after a step, and what it stored.
-type After = (State, Vec<(u16, u8)>);
-
-/// By the rules.
-fn served(line: Line, case: &Case) -> After {
-    let service = line.service(&case.state, |address| case.byte(address));
-    (service.after, service.pushed.to_vec())
+/// A count of cycles to begin with.
+fn count(random: &mut Random) -> u64 {
+    if random.below(2) == 0 {
+        0
+    } else {
+        random.below(1_000) as u64
+    }
 }
 
-/// By the Rust.
-fn stepped(case: &Case) -> Result<After, String> {
+/// Bytes with their addresses.
+type Cells = Vec<(u16, u8)>;
+
+/// How a step ends, by the rules.
+enum Ending {
+    Refused(u8),
+    Served(Line),
+    /// The byte at the counter is an opcode, which the Rust makes too.
+    Made,
+}
+
+impl Ending {
+    fn of(case: &Case) -> Ending {
+        if case.state.cycles > HIGHEST_COUNT {
+            return Ending::Refused(2);
+        }
+        match (case.lines.due(&case.state), case.entry()) {
+            (Some(line), _) => Ending::Served(line),
+            (None, Some(_)) => Ending::Made,
+            (None, None) => Ending::Refused(3),
+        }
+    }
+
+    /// The case with no byte but the one at the counter, and those that the step reads.
+    fn smallest(&self, case: &Case) -> Case {
+        let mut smallest = Case {
+            bytes: Vec::new(),
+            ..case.clone()
+        };
+        smallest.put(case.state.counter, case.byte(case.state.counter));
+        match self {
+            Ending::Refused(_) => smallest,
+            Ending::Served(line) => {
+                for place in line.vector() {
+                    smallest.put(place, case.byte(place));
+                }
+                smallest
+            }
+            Ending::Made => case.smallest(),
+        }
+    }
+
+    /// The state after the step, and what it stored.
+    fn after(&self, case: &Case) -> Result<(State, Cells), String> {
+        match self {
+            Ending::Refused(_) => Ok((case.state, Cells::new())),
+            Ending::Served(line) => {
+                let service = line.service(&case.state, |address| case.byte(address));
+                Ok((service.after, service.pushed.to_vec()))
+            }
+            Ending::Made => by_the_rust(case),
+        }
+    }
+}
+
+fn by_the_rust(case: &Case) -> Result<(State, Cells), String> {
     let mut core = Core::of_case(case);
     let after = core
         .step_with(&case.state, case.lines)
         .ok_or(format!("the Rust made no step: {case}"))?;
-    let mut stored = Vec::new();
+    let mut stored = Cells::new();
     for access in core.accesses() {
         if let Access::Store(address) = *access {
             stored.push((address, core.bytes()[usize::from(address)]));
@@ -141,52 +215,50 @@ fn stepped(case: &Case) -> Result<After, String> {
     Ok((after, stored))
 }
 
+/// A line's half: before the step its opcode, after it its answer, then the levels, the state and the bytes.
+fn half(number: u8, lines: Lines, state: &State, cells: &Cells) -> String {
+    let cells = cells.iter();
+    let cells: String = cells
+        .map(|(address, byte)| format!(" {byte:02X}@{address:04X}"))
+        .collect();
+    format!("{number:02X} {:02X} {state} |{cells}", lines.number())
+}
+
 fn line(case: &Case) -> Result<String, String> {
-    let case = case.smallest();
-    let (after, stored) = match case.lines.due(&case.state) {
-        Some(line) => served(line, &case),
-        None => stepped(&case)?,
+    let ending = Ending::of(case);
+    let case = ending.smallest(case);
+    let (after, stored) = ending.after(&case)?;
+    let (answer, last_nmi) = match ending {
+        Ending::Refused(answer) => (answer, case.lines.last_nmi),
+        Ending::Served(_) | Ending::Made => (0, case.lines.nmi),
+    };
+    let lines = Lines {
+        last_nmi,
+        ..case.lines
     };
     let opcode = case.byte(case.state.counter);
-    let cells = |cells: &[(u16, u8)]| {
-        let cells = cells.iter();
-        cells
-            .map(|(address, byte)| format!(" {byte:02X}@{address:04X}"))
-            .collect::<String>()
-    };
     Ok(format!(
-        "{opcode:02X} {:02X} {} |{} | {after} |{}",
-        case.lines.number(),
-        case.state,
-        cells(&case.bytes),
-        cells(&stored)
+        "{} | {}",
+        half(opcode, case.lines, &case.state, &case.bytes),
+        half(answer, lines, &after, &stored)
     ))
 }
 
 fn write(options: &Options) -> Result<String, String> {
     let mut random = Random::new(options.number("--seed", 6502));
-    let count = options.number("--count", 4_000) as usize;
+    let wanted = options.number("--count", 4_000) as usize;
     // A half for the opcodes, a half for the edges, and one of each at least.
-    let of_opcode = count.div_ceil(2 * 151).max(1);
-    let of_class = count.div_ceil(2 * CLASSES).max(1);
+    let of_opcode = wanted.div_ceil(2 * 151).max(1);
+    let of_class = wanted.div_ceil(2 * CLASSES).max(1);
     let cases = chosen(&mut random, of_opcode, of_class);
-    let mut cases = enough(cases, count, &mut random);
-    let mut text = text_of(&mut cases, &mut random)?;
-    // A tenth as many with lines, and one of each combination at least.
-    let mut cases = with_lines(&mut random, count.div_ceil(10 * 16).max(1));
-    text += &text_of(&mut cases, &mut random)?;
-    Ok(text)
-}
-
-/// A line for each case, with a count of cycles.
-fn text_of(cases: &mut [Case], random: &mut Random) -> Result<String, String> {
+    let mut cases = enough(cases, wanted, &mut random);
+    for case in &mut cases {
+        case.state.cycles = count(&mut random);
+    }
+    // With lines, one of each combination for every 400.
+    cases.extend(with_lines(&mut random, wanted.div_ceil(400)));
     let mut text = String::new();
-    for case in cases {
-        case.state.cycles = if random.below(2) == 0 {
-            0
-        } else {
-            random.below(1_000) as u64
-        };
+    for case in &cases {
         text += &line(case)?;
         text.push('\n');
     }

@@ -1,31 +1,44 @@
 -- What is compared of a step, and in which order.
-use Prim.Native.Nat.{ℕ}
-use mathlib.Core.Bool.{Bool, true, cond}
+use Prim.Native.Nat.{ℕ, _+_, _*_}
+use mathlib.Core.Bool.{Bool, not, cond}
 use mathlib.Core.List.{List}
 use lib.Dec.{eqb}
 use Rattle.registers.specs.State.{registersOf}
-use Rattle.registers.specs.StatusByte.{pushedByte, pulledStatus}
+use Rattle.registers.specs.StatusByte.{bit, bitAt, pushedByte, pulledStatus}
+use Rattle.manual.specs.declared.Lines.{Lines}
 use Rattle.manual.specs.declared.Machine.{Machine}
 use Rattle.manual.specs.declared.Stepped.{Stepped}
-use Rattle.manual.specs.Outcomes.{machineOf, isMade}
+use Rattle.manual.specs.Outcomes.{machineOf, number}
 use Rattle.vectors.specs.declared.State.{State}
 use Rattle.replay.specs.declared.compare.Verdict.{Verdict}
 use Rattle.replay.specs.SameBytes.{sameBytes}
 
--- the machine of a state that was read; NMI was high
+-- the machine of a state that was read: bit 2 of the levels is set where NMI was low at the last step
 abbrev pub machineAt : State → Machine
-machineAt s = machineOf (registersOf (s .accumulator) (s .x) (s .y) (s .stack) (s .counter) (pulledStatus (s .status))) (s .cycles) true
+machineAt s =
+    machineOf (registersOf (s .accumulator) (s .x) (s .y) (s .stack) (s .counter) (pulledStatus (s .status))) (s .cycles)
+    (not (bitAt 2 (s .levels)))
+
+-- bit 0 is set where NMI is low, bit 1 where IRQ is
+abbrev pub linesAt : State → Lines
+linesAt s = record { irq = not (bitAt 1 (s .levels)); nmi = not (bitAt 0 (s .levels)) }
+
+-- the three levels as a line has them
+unfoldable pub levelsByte : Lines → Bool → ℕ
+levelsByte lines nmi = bit (not (lines .nmi)) + bit (not (lines .irq)) * 2 + bit (not nmi) * 4
 
 -- the first part that differs, the memory last
-unfoldable pub compared : Machine → State → Bool → Verdict
-compared m s memory =
+unfoldable pub compared : Machine → Lines → State → Bool → Verdict
+compared m lines s memory =
     cond (eqb (m .registers .counter) (s .counter))
     (cond (eqb (m .registers .accumulator) (s .accumulator))
     (cond (eqb (m .registers .x) (s .x))
     (cond (eqb (m .registers .y) (s .y))
     (cond (eqb (m .registers .stack .0) (s .stack))
     (cond (eqb (pushedByte (m .registers .status)) (s .status))
-    (cond (eqb (m .cycles) (s .cycles)) (cond memory Verdict.Same Verdict.Memory) Verdict.Cycles)
+    (cond (eqb (m .cycles) (s .cycles))
+    (cond (eqb (levelsByte lines (m .nmi)) (s .levels)) (cond memory Verdict.Same Verdict.Memory) Verdict.Levels)
+    Verdict.Cycles)
     Verdict.Status)
     Verdict.Stack)
     Verdict.Y)
@@ -33,6 +46,7 @@ compared m s memory =
     Verdict.Accumulator)
     Verdict.Counter
 
--- a step that was made is compared with a state and a memory; one that was refused differs in its answer
-unfoldable pub judged : Stepped × List ℕ → State → List ℕ → Verdict
-judged (q, m) s expected = cond (isMade (q .reason)) (compared (q .machine) s (sameBytes m expected)) Verdict.Answer
+-- a step with these lines is compared with a state and a memory, its answer first
+unfoldable pub judged : Stepped × List ℕ → Lines → State → List ℕ → Verdict
+judged (q, m) lines s expected =
+    cond (eqb (number (q .reason)) (s .number)) (compared (q .machine) lines s (sameBytes m expected)) Verdict.Answer

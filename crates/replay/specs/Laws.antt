@@ -8,9 +8,8 @@ use native.Mathlib.Omega.{arith}
 use lib.ListN.{length, set, take, replicate, replicate-append-replicate}
 use lib.Seq.{take-all, take-suc-set}
 use borrow.Author.Tests.{lt-ltb, le-ltb}
-use Rattle.reading.specs.declared.Byte.{Byte}
 use Rattle.vectors.specs.declared.State.{State}
-use Rattle.reading.specs.Numbers.{byteAt, markAt}
+use Rattle.reading.specs.Numbers.{markAt}
 use Rattle.vectors.specs.Lines.{stateAt, barAt, loadedFrom, mostCells, lineAfter}
 use Rattle.replay.specs.Verdicts.{zeros, endAt, lineAt, lineVerdict, faults, tallyFrom, tallyOf}
 
@@ -28,12 +27,10 @@ unfolding zeros
 zeroed e h = e ∙ ap (λ (k : ℕ). replicate k 0) h
 
 module _ (s : List ℕ) (at : ℕ) where
-  pub line-read : {opcode : Byte} {first second : ℕ} {before after : State} {list bar more loaded again stored end : ℕ} {z₁ z₂ m e₁ e₂ : List ℕ}
+  pub line-read : {second : ℕ} {before after : State} {list bar more loaded again stored end : ℕ} {z₁ z₂ m e₁ e₂ : List ℕ}
       → z₁ ≡ zeros
       → z₂ ≡ zeros
-      → opcode ≡ byteAt s at
-      → first ≡ markAt 32 s (opcode .next)
-      → before ≡ stateAt s first
+      → before ≡ stateAt s at
       → list ≡ barAt s (before .next)
       → loadedFrom mostCells s list z₂ ≡ (again, e₁)
       → loadedFrom mostCells s list z₁ ≡ (loaded, m)
@@ -44,14 +41,14 @@ module _ (s : List ℕ) (at : ℕ) where
       → loadedFrom mostCells s more e₁ ≡ (stored, e₂)
       → end ≡ endAt s stored
       → lineAt s at
-      ≡ record { line = record { opcode = opcode .value; before = before; after = after; next = end }; memory = m; expected = e₂ }
+      ≡ record { line = record { before = before; after = after; next = end }; memory = m; expected = e₂ }
   unfolding lineAt
-  line-read {m = m} {e₁ = e₁} z₁ z₂ o f b l x y r g a n w d =
+  line-read {m = m} {e₁ = e₁} z₁ z₂ b l x y r g a n w d =
       let x′ = rw z₂ at x in
       let y′ = rw z₁ at y in
       let same : e₁ ≡ m = ap (λ (p : ℕ × List ℕ). p .1) (sym x′ ∙ y′) in
       let w′ = rw same at w in
-      rw (← o, ← f, ← b, ← l, y′, ← r, ← g, ← a, ← n, w′, ← d)
+      rw (← b, ← l, y′, ← r, ← g, ← a, ← n, w′, ← d)
 
 pub tally-start : (s : List ℕ) → tallyOf s ≡ tallyFrom (length s - 0) s 0 0 0
 unfolding tallyOf

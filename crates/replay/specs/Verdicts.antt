@@ -2,28 +2,29 @@
 use Prim.Native.Nat.{ℕ, zero, suc, _+_}
 use mathlib.Core.Bool.{Bool, cond, false}
 use mathlib.Core.List.{List}
-use lib.Dec.{eqb, ltb}
+use lib.Dec.{eqb, leb, ltb}
 use lib.ListN.{length, getD, replicate}
 use Rattle.registers.specs.StatusByte.{pushedByte, pulledStatus}
 use Rattle.manual.specs.Micro.{exec}
-use Rattle.manual.specs.Interrupts.{idle}
 use Rattle.manual.specs.Stepping.{step}
 use Rattle.vectors.specs.declared.State.{State}
-use Rattle.reading.specs.Numbers.{nowhere, byteAt, markAt}
+use Rattle.reading.specs.Numbers.{nowhere, markAt}
 use Rattle.vectors.specs.Lines.{stateAt, barAt, loadedFrom, mostCells, lineAfter}
 use Rattle.replay.specs.declared.compare.Verdict.{Verdict}
 use Rattle.replay.specs.declared.line.Line.{Line}
 use Rattle.replay.specs.declared.Tally.{Tally}
-use Rattle.replay.specs.Comparison.{machineAt, judged}
+use Rattle.replay.specs.Comparison.{machineAt, linesAt, judged}
 
 -- LF, or a space and LF
 unfoldable pub endAt : List ℕ → ℕ → ℕ
 endAt s at = cond (eqb (markAt 10 s at) nowhere) (markAt 10 s (markAt 32 s at)) (markAt 10 s at)
 
--- the opcode is the one in memory, and PHP can push the status
-unfoldable pub wellFormed : ℕ → State → List ℕ → Bool
-wellFormed opcode before m =
-    cond (eqb opcode (getD m (before .counter) 0)) (eqb (pushedByte (pulledStatus (before .status))) (before .status)) false
+-- the opcode is the one in memory, there are three levels, and PHP can push the status
+unfoldable pub wellFormed : State → List ℕ → Bool
+wellFormed before m =
+    cond (eqb (before .number) (getD m (before .counter) 0))
+    (cond (leb (before .levels) 7) (eqb (pushedByte (pulledStatus (before .status))) (before .status)) false)
+    false
 
 -- a memory of 65,536 bytes, all 00
 unfoldable pub zeros : List ℕ
@@ -35,16 +36,15 @@ pub record Lined : Type 0 where
   pub memory : List ℕ
   pub expected : List ℕ
 
--- `OP PC A X Y S P CYCLES | BB@AAAA .. | PC A X Y S P CYCLES | BB@AAAA ..`: the memory after is the one before with the last list stored
+-- `OP LV PC A X Y S P CYCLES | BB@AAAA .. | AN LV PC A X Y S P CYCLES | BB@AAAA ..`: the memory after is the one before with the last list stored
 unfoldable pub lineAt : List ℕ → ℕ → Lined
 lineAt s at =
-    let opcode = byteAt s at in
-    let before = stateAt s (markAt 32 s (opcode .next)) in
+    let before = stateAt s at in
     let loaded = loadedFrom mostCells s (barAt s (before .next)) zeros in
     let after = stateAt s (markAt 32 s (barAt s (loaded .0))) in
     let stored = loadedFrom mostCells s (barAt s (after .next)) (loaded .1) in
     record {
-      line = record { opcode = opcode .value; before = before; after = after; next = endAt s (stored .0) };
+      line = record { before = before; after = after; next = endAt s (stored .0) };
       memory = loaded .1;
       expected = stored .1;
     }
@@ -53,8 +53,9 @@ lineAt s at =
 unfoldable pub verdictOn : Lined → Verdict
 verdictOn l =
     cond (eqb (l .line .next) nowhere) Verdict.Malformed
-    (cond (wellFormed (l .line .opcode) (l .line .before) (l .memory))
-    (judged (exec (step (length (l .memory)) idle (machineAt (l .line .before))) (l .memory)) (l .line .after) (l .expected))
+    (cond (wellFormed (l .line .before) (l .memory))
+    (judged (exec (step (length (l .memory)) (linesAt (l .line .before)) (machineAt (l .line .before))) (l .memory)) (linesAt (l .line .before))
+    (l .line .after) (l .expected))
     Verdict.Malformed)
 
 unfoldable pub lineVerdict : List ℕ → ℕ → Verdict
@@ -72,6 +73,7 @@ faults Verdict.Y = 1
 faults Verdict.Stack = 1
 faults Verdict.Status = 1
 faults Verdict.Cycles = 1
+faults Verdict.Levels = 1
 faults Verdict.Memory = 1
 
 -- at most n more lines from a place on, beside those that are counted already

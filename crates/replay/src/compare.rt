@@ -2,14 +2,14 @@
 ghost use mathlib.Core.Path.{_≡_};
 ghost use lib.ListN.{length};
 ghost use Rattle.manual.specs.Micro.{exec};
-ghost use Rattle.manual.specs.Interrupts.{idle};
 ghost use Rattle.manual.specs.Stepping.{step};
-ghost use Rattle.replay.specs.Comparison.{machineAt, compared, judged};
+ghost use Rattle.replay.specs.Comparison.{machineAt, linesAt, levelsByte, compared, judged};
 use cpu::single_step;
 use manual::Lines;
 use manual::Machine;
 use registers::Registers;
 use registers::Status;
+use registers::flag;
 use vectors::State;
 
 // The first part in which a step and its line differ.
@@ -24,6 +24,7 @@ pub(crate) enum Verdict {
     Stack,
     Status,
     Cycles,
+    Levels,
     Memory,
 }
 
@@ -40,12 +41,29 @@ fn machine_at(state: State) -> Machine
         state.counter,
         status,
     );
-    Machine::new(registers, state.cycles, true)
+    Machine::new(registers, state.cycles, state.levels / 4 % 2 != 1)
 }
 
-// The status is compared as the byte that PHP pushes.
-fn compare(machine: Machine, state: State, same: bool) -> Verdict
-    ensures { λ r. ⌜ r ≡ compared machine state same ⌝ }
+// The levels that a step from a state that was read is given.
+fn lines_at(state: State) -> Lines
+    ensures { λ r. ⌜ r ≡ linesAt state ⌝ }
+{
+    Lines {
+        irq: state.levels / 2 % 2 != 1,
+        nmi: state.levels % 2 != 1,
+    }
+}
+
+// The levels as a line has them: the present ones, and the last one of NMI.
+fn levels_byte(lines: Lines, nmi: bool) -> u8
+    ensures { λ r. ⌜ r ≡ levelsByte lines nmi ⌝ }
+{
+    flag(!lines.nmi) + flag(!lines.irq) * 2 + flag(!nmi) * 4
+}
+
+// The status is compared as the byte that PHP pushes, and the last level of NMI with the present ones, which hold.
+fn compare(machine: Machine, lines: Lines, state: State, same: bool) -> Verdict
+    ensures { λ r. ⌜ r ≡ compared machine lines state same ⌝ }
 {
     let registers = machine.registers;
     if registers.counter != state.counter {
@@ -69,25 +87,30 @@ fn compare(machine: Machine, state: State, same: bool) -> Verdict
     if machine.cycles != state.cycles {
         return Verdict::Cycles;
     }
+    if levels_byte(lines, machine.nmi) != state.levels {
+        return Verdict::Levels;
+    }
     if same {
         return Verdict::Same;
     }
     Verdict::Memory
 }
 
-// Makes the step with idle lines, and compares the machine and the whole memory after it.
+// Makes the step, and compares the answer, the machine and the whole memory after it.
 pub(crate) fn judge(before: State, after: State, memory: &mut [u8], expected: &[u8]) -> Verdict
     ensures { λ r.
         ⌜ r
         ≡ judged
-        (exec (step (length (now (memory .entry))) idle (machineAt before)) (now (memory .entry)))
+        (exec (step (length (now (memory .entry))) (linesAt before) (machineAt before)) (now (memory .entry)))
+        (linesAt before)
         after
         (now (expected .entry)) ⌝ }
 {
-    let stepped = single_step(machine_at(before), Lines::idle(), memory);
+    let lines = lines_at(before);
+    let stepped = single_step(machine_at(before), lines, memory);
     let reason = stepped.reason;
-    if reason.is_made() {
-        return compare(stepped.machine, after, check::same(memory, expected));
+    if reason.number() != after.number {
+        return Verdict::Answer;
     }
-    Verdict::Answer
+    compare(stepped.machine, lines, after, check::same(memory, expected))
 }

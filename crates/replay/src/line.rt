@@ -7,7 +7,6 @@ use crate::compare::judge;
 use memory::Address;
 use memory::peek;
 use reading::NOWHERE;
-use reading::read_byte;
 use reading::read_mark;
 use registers::Status;
 use vectors::State;
@@ -17,7 +16,6 @@ use vectors::read_state;
 
 // What a line says, but for its bytes of memory, and where the text goes on.
 struct Line {
-    opcode: u8,
     before: State,
     after: State,
     next: usize,
@@ -44,11 +42,15 @@ fn read_end(text: &[u8], at: usize) -> usize
     end
 }
 
-// Whether a line names the opcode that its memory has, and a status that PHP can push: a wrong digit there changes no step.
-fn is_well_formed(opcode: u8, before: State, memory: &[u8]) -> bool
-    ensures { λ r. ⌜ r ≡ wellFormed opcode before (now (memory .entry)) ⌝ }
+// Whether a line names the opcode that its memory has, three levels, and a status that PHP can push: a wrong digit there changes
+// no step.
+fn is_well_formed(before: State, memory: &[u8]) -> bool
+    ensures { λ r. ⌜ r ≡ wellFormed before (now (memory .entry)) ⌝ }
 {
-    if opcode != peek(memory, Address(before.counter)) {
+    if before.number != peek(memory, Address(before.counter)) {
+        return false;
+    }
+    if 7 < before.levels {
         return false;
     }
     Status::pulled(before.status).pushed() == before.status
@@ -63,15 +65,13 @@ fn read_line(text: &[u8], at: usize, memory: &mut [u8], expected: &mut [u8]) -> 
 {
     clear(memory);
     clear(expected);
-    let opcode = read_byte(text, at);
-    let before = read_state(text, read_mark(text, opcode.next, b' '));
+    let before = read_state(text, at);
     let list = read_bar(text, before.next);
     load_bytes(text, list, expected);
     let loaded = load_bytes(text, list, memory);
     let after = read_state(text, read_mark(text, read_bar(text, loaded), b' '));
     let stored = load_bytes(text, read_bar(text, after.next), expected);
     Line {
-        opcode: opcode.value,
         before: before,
         after: after,
         next: read_end(text, stored),
@@ -88,7 +88,7 @@ pub(crate) fn replay_line(text: &[u8], at: usize, memory: &mut [u8], expected: &
         return Verdict::Malformed;
     }
     let before = line.before;
-    if is_well_formed(line.opcode, before, memory) {
+    if is_well_formed(before, memory) {
         let after = line.after;
         return judge(before, after, memory, expected);
     }

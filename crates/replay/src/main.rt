@@ -1,4 +1,4 @@
-// Makes the steps of a list again, which the Rust has made, and says how many differ.
+// Makes the steps of a list again, and says how many differ.
 //
 // run replay [LIST]
 //
@@ -54,6 +54,8 @@ const STATUS: [u8; 12] = *b"status     \n";
 
 const CYCLES: [u8; 12] = *b"cycles     \n";
 
+const LEVELS: [u8; 12] = *b"levels     \n";
+
 const MEMORY: [u8; 12] = *b"memory     \n";
 
 // The word for a verdict. The ensures gives only the length, which lending the array as a slice needs.
@@ -71,6 +73,7 @@ fn word_of(verdict: Verdict) -> [u8; 12]
         Verdict::Stack => STACK,
         Verdict::Status => STATUS,
         Verdict::Cycles => CYCLES,
+        Verdict::Levels => LEVELS,
         Verdict::Memory => MEMORY,
     }
 }

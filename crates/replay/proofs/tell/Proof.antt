@@ -11,8 +11,8 @@ use Rattle.replay.specs.Verdicts.{faults}
 use Rattle.replay.proofs.tell.Statement.{statement}
 use Rattle.replay.proofs.tell.Tie as tie
 
-one-fault : (v : Verdict) → Run.OneOf (1 ∷ 2 ∷ 3 ∷ 4 ∷ 5 ∷ 6 ∷ 7 ∷ 8 ∷ 9 ∷ 10 ∷ []) (Declared.tagOf verdict.the-type v) → 1 ≡ faults v
-one-fault Verdict.Same h = absurd (Run.miss (1 ∷ 2 ∷ 3 ∷ 4 ∷ 5 ∷ 6 ∷ 7 ∷ 8 ∷ 9 ∷ 10 ∷ []) 0 tt h)
+one-fault : (v : Verdict) → Run.OneOf (1 ∷ 2 ∷ 3 ∷ 4 ∷ 5 ∷ 6 ∷ 7 ∷ 8 ∷ 9 ∷ 10 ∷ 11 ∷ []) (Declared.tagOf verdict.the-type v) → 1 ≡ faults v
+one-fault Verdict.Same h = absurd (Run.miss (1 ∷ 2 ∷ 3 ∷ 4 ∷ 5 ∷ 6 ∷ 7 ∷ 8 ∷ 9 ∷ 10 ∷ 11 ∷ []) 0 tt h)
 one-fault Verdict.Malformed h = refl
 one-fault Verdict.Answer h = refl
 one-fault Verdict.Counter h = refl
@@ -22,6 +22,7 @@ one-fault Verdict.Y h = refl
 one-fault Verdict.Stack h = refl
 one-fault Verdict.Status h = refl
 one-fault Verdict.Cycles h = refl
+one-fault Verdict.Levels h = refl
 one-fault Verdict.Memory h = refl
 
 returns : tie.Need-returns

@@ -78,31 +78,51 @@ returns-8 : tie.Need-returns-8
 unfolding compared
 returns-8 c =
     rw (
-      eq-eqb _ _ (c .before .before .before .before .before .before .before .before .before .before .before .before .before .before .before .before .before .before .before .if1 .left),
-      eq-eqb _ _ (c .before .before .before .before .before .before .before .before .before .before .before .before .before .before .before .before .if2 .left),
-      eq-eqb _ _ (c .before .before .before .before .before .before .before .before .before .before .before .before .before .if3 .left),
-      eq-eqb _ _ (c .before .before .before .before .before .before .before .before .before .before .if4 .left),
-      eq-eqb _ _ (c .before .before .before .before .before .before .before .if5 .left),
-      ← c .before .before .before .before .before .before .pushed .ensures,
-      eq-eqb _ _ (c .before .before .before .before .if6 .left),
-      eq-eqb _ _ (c .before .if7 .left),
-      c .if8 .taken,
+      eq-eqb _ _ (c .before .before .before .before .before .before .before .before .before .before .before .before .before .before .before .before .before .before .before .before .before .if1 .left),
+      eq-eqb _ _ (c .before .before .before .before .before .before .before .before .before .before .before .before .before .before .before .before .before .before .if2 .left),
+      eq-eqb _ _ (c .before .before .before .before .before .before .before .before .before .before .before .before .before .before .before .if3 .left),
+      eq-eqb _ _ (c .before .before .before .before .before .before .before .before .before .before .before .before .if4 .left),
+      eq-eqb _ _ (c .before .before .before .before .before .before .before .before .before .if5 .left),
+      ← c .before .before .before .before .before .before .before .before .pushed .ensures,
+      eq-eqb _ _ (c .before .before .before .before .before .before .if6 .left),
+      eq-eqb _ _ (c .before .before .before .if7 .left),
+      ← c .before .before .levels-byte .ensures,
+      ne-eqb _ _ (c .if8 .taken),
     )
 
 returns-9 : tie.Need-returns-9
 unfolding compared
 returns-9 c =
     rw (
-      eq-eqb _ _ (c .before .before .before .before .before .before .before .before .before .before .before .before .before .before .before .before .before .before .before .if1 .left),
-      eq-eqb _ _ (c .before .before .before .before .before .before .before .before .before .before .before .before .before .before .before .before .if2 .left),
-      eq-eqb _ _ (c .before .before .before .before .before .before .before .before .before .before .before .before .before .if3 .left),
-      eq-eqb _ _ (c .before .before .before .before .before .before .before .before .before .before .if4 .left),
-      eq-eqb _ _ (c .before .before .before .before .before .before .before .if5 .left),
-      ← c .before .before .before .before .before .before .pushed .ensures,
-      eq-eqb _ _ (c .before .before .before .before .if6 .left),
-      eq-eqb _ _ (c .before .if7 .left),
-      c .if8 .left,
+      eq-eqb _ _ (c .before .before .before .before .before .before .before .before .before .before .before .before .before .before .before .before .before .before .before .before .before .before .if1 .left),
+      eq-eqb _ _ (c .before .before .before .before .before .before .before .before .before .before .before .before .before .before .before .before .before .before .before .if2 .left),
+      eq-eqb _ _ (c .before .before .before .before .before .before .before .before .before .before .before .before .before .before .before .before .if3 .left),
+      eq-eqb _ _ (c .before .before .before .before .before .before .before .before .before .before .before .before .before .if4 .left),
+      eq-eqb _ _ (c .before .before .before .before .before .before .before .before .before .before .if5 .left),
+      ← c .before .before .before .before .before .before .before .before .before .pushed .ensures,
+      eq-eqb _ _ (c .before .before .before .before .before .before .before .if6 .left),
+      eq-eqb _ _ (c .before .before .before .before .if7 .left),
+      ← c .before .before .before .levels-byte .ensures,
+      eq-eqb _ _ (c .before .if8 .left),
+      c .if9 .taken,
+    )
+
+returns-10 : tie.Need-returns-10
+unfolding compared
+returns-10 c =
+    rw (
+      eq-eqb _ _ (c .before .before .before .before .before .before .before .before .before .before .before .before .before .before .before .before .before .before .before .before .before .before .if1 .left),
+      eq-eqb _ _ (c .before .before .before .before .before .before .before .before .before .before .before .before .before .before .before .before .before .before .before .if2 .left),
+      eq-eqb _ _ (c .before .before .before .before .before .before .before .before .before .before .before .before .before .before .before .before .if3 .left),
+      eq-eqb _ _ (c .before .before .before .before .before .before .before .before .before .before .before .before .before .if4 .left),
+      eq-eqb _ _ (c .before .before .before .before .before .before .before .before .before .before .if5 .left),
+      ← c .before .before .before .before .before .before .before .before .before .pushed .ensures,
+      eq-eqb _ _ (c .before .before .before .before .before .before .before .if6 .left),
+      eq-eqb _ _ (c .before .before .before .before .if7 .left),
+      ← c .before .before .before .levels-byte .ensures,
+      eq-eqb _ _ (c .before .if8 .left),
+      c .if9 .left,
     )
 
 pub compare-spec : {M : Type 1} → statement M
-compare-spec = tie.close (tie.spec returns returns-2 returns-3 returns-4 returns-5 (search needs) returns-6 returns-7 returns-8 returns-9)
+compare-spec = tie.close (tie.spec returns returns-2 returns-3 returns-4 returns-5 (search needs) returns-6 returns-7 (search needs) returns-8 returns-9 returns-10)
