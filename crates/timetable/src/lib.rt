@@ -69,7 +69,8 @@ fn put_step(out: &mut [u8], at: usize, machine: Machine, memory: &mut [u8]) -> T
     }
 }
 
-// At most `bound` steps from a machine with idle lines, and what is printed of each. What does not fit is dropped; a line has at most 52 characters.
+// At most `bound` steps from a machine with idle lines, and what is printed of each. What does not fit is dropped; a line has
+// at most 52 characters.
 pub fn put_steps(out: &mut [u8], machine: Machine, bound: u64, memory: &mut [u8]) -> Timed
     ensures { λ r. ⌜ Gives (longRun (length (now (memory .entry))) bound idle machine) (now (memory .entry)) (r .ended) (now (memory .exit)) ⌝ }
     ensures { λ r. ⌜ Wrote (now (out .entry)) 0 (timetable bound machine (now (memory .entry))) (now (out .exit)) (r .size) ⌝ }
