@@ -63,34 +63,44 @@ serving vector r count nmi =
       r₁ ← served vector r
       done (travelled 0 (ended Made 1 (machineOf r₁ (count + 7) nmi))))
 
+-- ---- two tests, one after the other
+
+pub both : (a b : Bool) → a ≡ true → b ≡ true → (a && b) ≡ true
+both a b e f = rw (e, f)
+
+pub first-not : (a b : Bool) → a ≡ false → (a && b) ≡ false
+first-not a b e = rw e
+
+pub second-not : (a b : Bool) → b ≡ false → (a && b) ≡ false
+second-not true b e = e
+second-not false b e = refl
+
 -- ---- a turn by what is due
 
-pub turn-gives : (n : ℕ) (lines : Lines) (s : Machine) (m : List ℕ) {w : Travelled} {m′ : List ℕ} → Gives (travelling (stretch (due lines s) n) 0 0 lines s) m w m′
+turn-gives : (n : ℕ) (lines : Lines) (s : Machine) (m : List ℕ) (j : ℕ) {w : Travelled} {m′ : List ℕ} → stretch (due lines s) n ≡ j
+    → Gives (travelling j 0 0 lines s) m w m′
     → Gives (turning n lines s) m (recording lines w) m′
 unfolding turning
-turn-gives n lines s m g = then (travelling (stretch (due lines s) n) 0 0 lines s) _ m g refl
+turn-gives n lines s m j e g = rw e (then (travelling j 0 0 lines s) _ m g refl)
 
--- a step of a turn in which a line is due
+-- where a line is due
 one-of : (d : Due) (n vector : ℕ) → d ≡ Through vector → stretch d n ≡ 1
 one-of (Through v) n vector e = refl
 one-of Quiet n vector e = absurd (not-quiet Quiet vector refl e)
 
 module _ (n : ℕ) (lines : Lines) (s : Machine) (m : List ℕ) (vector : ℕ) (e : due lines s ≡ Through vector) where
-  abbrev one : ℕ
-  one = stretch (due lines s) n
-
   serve-late : highestCount < s .cycles → exec (turning n lines s) m ≡ exec (serving vector (s .registers) (s .cycles) (lines .nmi)) m
   unfolding serving
   serve-late h =
-      turn-gives n lines s m (rw (one-of (due lines s) n vector e) (travel-halts lines s m _ m (step-late lines s m h) 0 0 0 refl))
+      turn-gives n lines s m 1 (one-of (due lines s) n vector e) (travel-halts lines s m _ m (step-late lines s m h) 0 0 0 refl)
       ∙ rw (lt-ltb highestCount (s .cycles) h)
 
   serve-made : s .cycles ≤ highestCount → exec (turning n lines s) m ≡ exec (serving vector (s .registers) (s .cycles) (lines .nmi)) m
   unfolding serving
   serve-made h =
       let w = exec (served vector (s .registers)) m in
-      turn-gives n lines s m
-      (rw (one-of (due lines s) n vector e) (travel-made lines s m _ (w .1) (step-serves lines s m vector h e {r = w .0} refl) 0 0 0 refl ∙ travel-end _ _ _ _ _))
+      turn-gives n lines s m 1 (one-of (due lines s) n vector e)
+      (travel-made lines s m _ (w .1) (step-serves lines s m vector {r = w .0} h e refl) 0 0 0 refl ∙ travel-end 1 0 lines _ (w .1))
       ∙ rw (le-ltb highestCount (s .cycles) h) (sym (exec-bind (served vector (s .registers)) _ m))
 
   -- a line that is due is served
@@ -116,15 +126,16 @@ levelOf w = w .0 .ended .machine .nmi
 held : (n k first : ℕ) (lines : Lines) (s : Machine) (m : List ℕ) → s .nmi ≡ lines .nmi → levelOf (exec (travelling n k first lines s) m) ≡ lines .nmi
 unfolding levelOf
 held zero k first lines s m e = ap levelOf (travel-end k first lines s m) ∙ e
-held (suc n) k first lines s m e = by-way (way lines s m)
+held (suc n) k first lines s m e = by-way (λ next s₁ m₁ h. held n (k + 1) next lines s₁ m₁ h) (way lines s m)
   where
-    by-way : Way lines s m → levelOf (exec (travelling (suc n) k first lines s) m) ≡ lines .nmi
-    by-way (late h) = ap levelOf (travel-halts lines s m _ m (step-late lines s m h) n k first refl) ∙ e
-    by-way (serves h) =
-        ap levelOf (travel-made lines s m _ _ (step-serves lines s m (h .1 .0) (h .0) (h .1 .1) refl) n k first refl) ∙ held n (k + 1) _ lines _ _ refl
-    by-way (undefined h) = ap levelOf (travel-halts lines s m _ m (step-undefined lines s m (h .0) (h .1) (h .2)) n k first refl) ∙ e
-    by-way (ready h) =
-        ap levelOf (travel-made lines s m _ _ (step-defined lines s m (h .2 .0) (h .0) (h .1) (h .2 .1) refl) n k first refl) ∙ held n (k + 1) _ lines _ _ refl
+    by-way : ((next : ℕ) (s₁ : Machine) (m₁ : List ℕ) → s₁ .nmi ≡ lines .nmi → levelOf (exec (travelling n (k + 1) next lines s₁) m₁) ≡ lines .nmi)
+        → Way lines s m → levelOf (exec (travelling (suc n) k first lines s) m) ≡ lines .nmi
+    by-way more (late h) = ap levelOf (travel-halts lines s m _ m (step-late lines s m h) n k first refl) ∙ e
+    by-way more (serves h) =
+        ap levelOf (travel-made lines s m _ _ (step-serves lines s m (h .1 .0) (h .0) (h .1 .1) refl) n k first refl) ∙ more _ _ _ refl
+    by-way more (undefined h) = ap levelOf (travel-halts lines s m _ m (step-undefined lines s m (h .0) (h .1) (h .2)) n k first refl) ∙ e
+    by-way more (ready h) =
+        ap levelOf (travel-made lines s m _ _ (step-defined lines s m (h .2 .0) (h .0) (h .1) (h .2 .1) refl) n k first refl) ∙ more _ _ _ refl
 
 -- then a turn has nothing to record
 abbrev recordedIn : Lines → Travelled × List ℕ → Travelled × List ℕ
@@ -142,11 +153,11 @@ module _ (lines : Lines) (s : Machine) (m : List ℕ) (e : due lines s ≡ Quiet
   abbrev nmi : Bool
   nmi = lines .nmi
 
-  abbrev as : Machine
-  as = levelled nmi s
+  abbrev flat : Machine
+  flat = levelled nmi s
 
   abbrev Same : ℕ → Type 0
-  Same n = exec (turning n lines s) m ≡ exec (travelling n 0 0 (raised nmi) as) m
+  Same n = exec (turning n lines s) m ≡ exec (travelling n 0 0 (raised nmi) flat) m
 
   all-of : (n : ℕ) → stretch (due lines s) n ≡ n
   all-of n = rw e
@@ -164,20 +175,20 @@ module _ (lines : Lines) (s : Machine) (m : List ℕ) (e : due lines s ≡ Quiet
 
   by-first : (n : ℕ) → Calm lines (suc n) → Way lines s m → Same (suc n)
   by-first n calm (late h) =
-      turn-gives (suc n) lines s m (rw (all-of (suc n)) (travel-halts lines s m _ m (step-late lines s m h) n 0 0 refl))
-      ∙ sym (travel-halts (raised nmi) as m _ m (step-late (raised nmi) as m h) n 0 0 refl)
+      turn-gives (suc n) lines s m (suc n) (all-of (suc n)) (travel-halts lines s m _ m (step-late lines s m h) n 0 0 refl)
+      ∙ sym (travel-halts (raised nmi) flat m _ m (step-late (raised nmi) flat m h) n 0 0 refl)
   by-first n calm (serves h) = absurd (not-quiet (due lines s) (h .1 .0) e (h .1 .1))
   by-first n calm (undefined h) =
-      turn-gives (suc n) lines s m (rw (all-of (suc n)) (travel-halts lines s m _ m (step-undefined lines s m (h .0) (h .1) (h .2)) n 0 0 refl))
-      ∙ sym (travel-halts (raised nmi) as m _ m (step-undefined (raised nmi) as m (h .0) (raised-quiet nmi (s .registers) (s .cycles)) (h .2)) n 0 0 refl)
+      turn-gives (suc n) lines s m (suc n) (all-of (suc n)) (travel-halts lines s m _ m (step-undefined lines s m (h .0) (h .1) (h .2)) n 0 0 refl)
+      ∙ sym (travel-halts (raised nmi) flat m _ m (step-undefined (raised nmi) flat m (h .0) (raised-quiet nmi (s .registers) (s .cycles)) (h .2)) n 0 0 refl)
   by-first n calm (ready h) =
-      turn-gives (suc n) lines s m (rw (all-of (suc n)) (travel-made lines s m _ _ (step-defined lines s m (h .2 .0) (h .0) e (h .2 .1) refl) n 0 0 refl))
+      turn-gives (suc n) lines s m (suc n) (all-of (suc n)) (travel-made lines s m _ _ (step-defined lines s m (h .2 .0) (h .0) e (h .2 .1) refl) n 0 0 refl)
       ∙ rest n _ _ _ calm refl
-      ∙ sym (travel-made (raised nmi) as m _ _ (step-defined (raised nmi) as m (h .2 .0) (h .0) (raised-quiet nmi (s .registers) (s .cycles)) (h .2 .1) refl) n 0 0 refl)
+      ∙ sym (travel-made (raised nmi) flat m _ _ (step-defined (raised nmi) flat m (h .2 .0) (h .0) (raised-quiet nmi (s .registers) (s .cycles)) (h .2 .1) refl) n 0 0 refl)
 
   -- where none is due, a turn is steps with IRQ high and NMI at the present level throughout
-  pub turn-walks : (n : ℕ) → Calm lines n → exec (turning n lines s) m ≡ exec (travelling n 0 0 (raised nmi) as) m
-  turn-walks zero calm = turn-gives zero lines s m (rw (all-of zero) (travel-end 0 0 lines s m)) ∙ sym (travel-end 0 0 (raised nmi) as m)
+  pub turn-walks : (n : ℕ) → Calm lines n → exec (turning n lines s) m ≡ exec (travelling n 0 0 (raised nmi) flat) m
+  turn-walks zero calm = turn-gives zero lines s m zero (all-of zero) (travel-end 0 0 lines s m) ∙ sym (travel-end 0 0 (raised nmi) flat m)
   turn-walks (suc n) calm = by-first n calm (way lines s m)
 
 -- ---- a step and a run by turns
@@ -252,20 +263,37 @@ module _ (lines : Lines) (s : Machine) (n : ℕ) (l : 0 < n) where
     gone : Gives (runFull far 0 lines s) m q m′
     gone = travel-run far 0 0 lines s m (turned (reach (lines .irq) n) lines s m g)
 
+    -- it makes no more steps than are left
+    pub turn-few : q .steps ≤ n
+    turn-few = few (run-ends far lines s m gone)
+      where
+        few : {p : Ended} {e : List ℕ} → Ends far lines s m p e → p .steps ≤ n
+        few (all-made led) = some (due lines s) (lines .irq) .1
+        few (no-cycle-room l led r) = omega (arith, some (due lines s) (lines .irq) .1)
+        few (not-an-opcode l led r) = omega (arith, some (due lines s) (lines .irq) .1)
+
     -- where it was stopped, so is the run
-    pub turn-stops : (q .reason ≡ Made → ⊥) → Gives (runFull n 0 lines s) m q m′
+    pub turn-stops : isMade (q .reason) ≡ false → Gives (runFull n 0 lines s) m q m′
     turn-stops f =
         let e : far + (n - far) ≡ n = omega (arith, some (due lines s) (lines .irq) .1) in
-        rw e at (full-stopped far (n - far) lines s m gone f)
+        rw e at (full-stopped far (n - far) lines s m gone (λ h. let z : true ≡ false = ap isMade (sym h) ∙ f in let y : _≡_ {A = ℕ} 0 1 = cc in omega arith))
 
-    steps-of : {p : Ended} {e : List ℕ} → Ends far lines s m p e → p .reason ≡ Made → p .steps ≡ far
-    steps-of (all-made led) h = refl
+    steps-of : {p : Ended} {e : List ℕ} → Ends far lines s m p e → isMade (p .reason) ≡ true → (p .reason ≡ Made) × (p .steps ≡ far)
+    steps-of (all-made led) h = (refl, refl)
     steps-of (no-cycle-room l led r) h = let z : _≡_ {A = ℕ} 0 1 = cc in absurd (omega arith)
     steps-of (not-an-opcode l led r) h = let z : _≡_ {A = ℕ} 0 1 = cc in absurd (omega arith)
 
-    -- where it was not, the run goes on from the machine that it left, and it has made a step
-    pub turn-goes : q .reason ≡ Made → (0 < q .steps) × (q .steps ≤ n) × (exec (runFull n 0 lines s) m ≡ added (q .steps) (exec (runFull (n - q .steps) 0 lines (q .machine)) m′))
+    -- where it was not, it has made a step, and the run goes on from the machine that it left
+    pub turn-goes : isMade (q .reason) ≡ true
+        → (0 < q .steps) × (exec (runFull n 0 lines s) m ≡ added (q .steps) (exec (runFull (n - q .steps) 0 lines (q .machine)) m′))
     turn-goes h =
-        let made : q .steps ≡ far = steps-of (run-ends far lines s m gone) h in
-        let e : far + (n - q .steps) ≡ n = omega (arith, some (due lines s) (lines .irq) .1) in
-        (omega (arith, some (due lines s) (lines .irq) .0), omega (arith, some (due lines s) (lines .irq) .1), rw e at (full-lunch far (n - q .steps) lines s m gone h))
+        let made = steps-of (run-ends far lines s m gone) h in
+        let e : far + (n - q .steps) ≡ n = omega (arith, made .1, some (due lines s) (lines .irq) .1) in
+        (omega (arith, made .1, some (due lines s) (lines .irq) .0), rw e at (full-lunch far (n - q .steps) lines s m gone (made .0)))
+
+-- no step before, and so many before and so many more
+pub added-none : (w : Ended × List ℕ) → w ≡ added 0 w
+added-none w = let e : w .0 .steps ≡ 0 + w .0 .steps = omega arith in ap (λ (c : ℕ). (ended (w .0 .reason) c (w .0 .machine), w .1)) e
+
+pub added-twice : (j k : ℕ) (w : Ended × List ℕ) → added j (added k w) ≡ added (j + k) w
+added-twice j k w = let e : j + (k + w .0 .steps) ≡ j + k + w .0 .steps = omega arith in ap (λ (c : ℕ). (ended (w .0 .reason) c (w .0 .machine), w .1)) e

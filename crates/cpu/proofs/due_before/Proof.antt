@@ -1,36 +1,44 @@
--- NMI's two tests come first, and then IRQ's.
+-- Idle lines first; then NMI's two tests, and then IRQ's.
 use mathlib.Core.Path.{_≡_, sym}
 use mathlib.Core.Logic.{⊎-elim}
 use mathlib.Core.Bool.{false, not}
-use Rattle.manual.specs.Interrupts.{falls, calls}
+use Rattle.manual.specs.Interrupts.{falls}
 use Rattle.manual.specs.Theorems.StepLaws.{due-nmi, due-irq, due-none}
-use Rattle.cpu.specs.Levels.{both, first-not, second-not}
+use Rattle.cpu.specs.Turning.{both, first-not, second-not}
 use Rattle.cpu.proofs.due_before.Statement.{statement}
 use Rattle.cpu.proofs.due_before.Tie as tie
 
 returns : tie.Need-returns
 returns c =
-    let a = c .before .before .before .args in
-    sym (due-nmi (a .lines) (a .machine) (both (a .machine .nmi) _ (c .before .before .if1 .taken) (c .if2 .taken)))
-
--- NMI does not fall
-held : (c : tie.Joined1) → falls (c .before .args .lines) (c .before .args .machine) ≡ false
-held c =
-    let a = c .before .args in
-    ⊎-elim (λ t. second-not (a .machine .nmi) _ (t .2 .left)) (λ e. first-not _ (not (a .lines .nmi)) (e .left)) (c .if1 .came)
+    let a = c .before .before .args in
+    sym (due-none (a .lines) (a .machine)
+    (second-not (a .machine .nmi) (not (a .lines .nmi)) (rw (c .before .if1 .taken)))
+    (first-not (not (a .lines .irq)) (not (a .machine .registers .status .disable)) (rw (c .if2 .taken))))
 
 returns-2 : tie.Need-returns-2
 returns-2 c =
-    let c₄ = c .before .before .before .before in
-    let a = c₄ .before .args in
-    sym (due-irq (a .lines) (a .machine) (held c₄) (both (not (a .lines .irq)) _ (c .before .before .if3 .taken) (c .if4 .taken)))
+    let c₂ = c .before .before in
+    let a = c₂ .before .before .args in
+    sym (due-nmi (a .lines) (a .machine) (both (a .machine .nmi) _ (c₂ .if3 .taken) (c .if4 .taken)))
+
+-- NMI does not fall
+held : (c : tie.Joined3) → let a = c .before .before .args in falls (a .lines) (a .machine) ≡ false
+held c =
+    let a = c .before .before .args in
+    ⊎-elim (λ t. second-not (a .machine .nmi) _ (t .2 .left)) (λ e. first-not _ (not (a .lines .nmi)) (e .left)) (c .if3 .came)
 
 returns-3 : tie.Need-returns-3
 returns-3 c =
+    let c₄ = c .before .before .before .before in
+    let a = c₄ .before .before .args in
+    sym (due-irq (a .lines) (a .machine) (held c₄) (both (not (a .lines .irq)) _ (c .before .before .if5 .taken) (c .if6 .taken)))
+
+returns-4 : tie.Need-returns-4
+returns-4 c =
     let c₂ = c .before .before in
-    let a = c₂ .before .args in
+    let a = c₂ .before .before .args in
     sym (due-none (a .lines) (a .machine) (held c₂)
-    (⊎-elim (λ t. second-not (not (a .lines .irq)) _ (t .2 .left)) (λ e. first-not _ (not (a .machine .registers .status .disable)) (e .left)) (c .if3 .came)))
+    (⊎-elim (λ t. second-not (not (a .lines .irq)) _ (t .2 .left)) (λ e. first-not _ (not (a .machine .registers .status .disable)) (e .left)) (c .if5 .came)))
 
 pub due-before-spec : {M : Type 1} → statement M
-due-before-spec = tie.close (tie.spec returns returns-2 returns-3)
+due-before-spec = tie.close (tie.spec returns returns-2 returns-3 returns-4)
