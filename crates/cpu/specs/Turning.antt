@@ -194,7 +194,7 @@ module _ (lines : Lines) (s : Machine) (m : List ℕ) (e : due lines s ≡ Quiet
 -- ---- a step and a run by turns
 
 -- the machine that a run leaves: where it made a step it has the present level, and otherwise it is the one that was given
-settles : (n : ℕ) (lines : Lines) (s : Machine) (m : List ℕ) {q : Ended} {m′ : List ℕ} → Ends n lines s m q m′
+pub settles : (n : ℕ) (lines : Lines) (s : Machine) (m : List ℕ) {q : Ended} {m′ : List ℕ} → Ends n lines s m q m′
     → cond (ltb 0 (q .steps)) (levelled (lines .nmi) (q .machine)) s ≡ q .machine
 settles n lines s m end = by-end end
   where
@@ -230,7 +230,7 @@ module _ (n : ℕ) (lines : Lines) (s : Machine) (m : List ℕ) {r : Travelled} 
       (sym (settles size lines s m (run-ends size lines s m {q = w .0 .ended} {m′ = w .1} (travel-run size 0 0 lines s m {w = w .0} {m′ = w .1} refl))))
       ∙ ap (λ (v : Travelled × List ℕ). (travelled (v .0 .first) (settled s (v .0 .ended)), v .1)) told
 
-one-step : (d : Due) → stretch d 1 ≡ 1
+pub one-step : (d : Due) → stretch d 1 ≡ 1
 one-step (Through vector) = refl
 one-step Quiet = refl
 

@@ -1,30 +1,71 @@
--- What a step and a run give on numbers: what a run gives on a full memory, and what the tests before it refuse.
-use Prim.Native.Nat.{ℕ, _≤_, _<_}
-use mathlib.Core.Bool.{Bool}
+-- A step and a run on numbers: what a turn and a run give on a full memory, and what the tests before them refuse.
+use Prim.Native.Nat.{ℕ, zero, suc, _+_, _-_, _≤_, _<_}
+use mathlib.Core.Bool.{Bool, true, false, cond}
 use mathlib.Core.Path.{_≡_, refl, ap, sym, _∙_}
-use mathlib.Core.List.{List}
+use mathlib.Core.List.{List, []}
 use native.Mathlib.Omega.{arith}
-use borrow.Author.Tests.{le-ltb}
-use lib.Dec.{ltb}
+use borrow.Author.Tests.{lt-ltb, le-ltb}
+use lib.Dec.{eqb, leb, ltb}
+use Rattle.packing.specs.Packed.{packed}
 use Rattle.manual.specs.declared.Lines.{Lines}
 use Rattle.manual.specs.declared.Machine.{Machine}
 use Rattle.manual.specs.declared.Stepped.{Stepped}
 use Rattle.manual.specs.declared.Ended.{Ended}
+use Rattle.manual.specs.declared.Reason.{Reason}
+use Rattle.manual.specs.declared.Reason.the-variants.{Made, MemoryNotFull, NoCycleRoom, NotAnOpcode, BoundTooHigh}
 use Rattle.manual.specs.Micro.{Micro, done, exec, _>>=_, Gives}
-use Rattle.manual.specs.Outcomes.{number, isMade, stepped}
+use Rattle.manual.specs.Outcomes.{number, isMade, stepped, ended}
+use Rattle.manual.specs.Interrupts.{due}
+use Rattle.manual.specs.Spending.{spendFull, runCycles}
 use Rattle.manual.specs.Stepping.{fullMemory, highestBound, step, runFull, run, longRun}
 use Rattle.manual.specs.Theorems.Programs.{then, exec-bind}
 use Rattle.manual.specs.Theorems.StepLaws.{step-short, step-whole, run-short, run-long, run-whole, long-short, long-whole}
 use Rattle.manual.specs.Theorems.RunAnswers.{Ends, all-made, no-cycle-room, not-an-opcode, run-ends}
+use Rattle.manual.specs.Theorems.Spending.{cycles-short, cycles-long, cycles-whole}
 use Rattle.cpu.specs.declared.Travelled.{Travelled}
-use Rattle.cpu.specs.Travelling.{travelling, travel-run, travel-step}
-use Rattle.mos6502.specs.Numbers.{machineFrom, linesFrom, registersAfter, cyclesAfter, StepNumbers, RunNumbers, TravelNumbers, stepNumbers, runNumbers, travelNumbers, stepOnNumbers, runOnNumbers, longRunOnNumbers, travelOnNumbers}
+use Rattle.cpu.specs.Travelling.{travelled, travelling, travel-run}
+use Rattle.cpu.specs.Turning.{levelled, turning, settles, settled, turned, one-step, turn-step}
+use Rattle.cpu.specs.Lifting.{lift, lifted, lowered, lifted-least, lifted-spent, lifted-unspent}
+use Rattle.mos6502.specs.Numbers.{machineFrom, linesFrom, registersAfter, cyclesAfter, StepNumbers, RunNumbers, TurnNumbers, stepNumbers, runNumbers, turnNumbers, stepOnNumbers, runOnNumbers, longRunOnNumbers, runCyclesOnNumbers, runFullOnNumbers, turnOnNumbers}
 
 -- a run of one has made a step exactly where it answers so
 one-made : {lines : Lines} {s : Machine} {m : List ℕ} {q : Ended} {m′ : List ℕ} → Ends 1 lines s m q m′ → isMade (q .reason) ≡ ltb 0 (q .steps)
 one-made (all-made h) = refl
 one-made (no-cycle-room {k} l h r) = sym (le-ltb 0 k (omega arith))
 one-made (not-an-opcode {k} l h r) = sym (le-ltb 0 k (omega arith))
+
+-- 0 is the answer of a run that made its steps
+pub zero-made : (r : Reason) → number r ≡ 0 → isMade r ≡ true
+zero-made Made e = refl
+zero-made MemoryNotFull e = absurd (omega arith)
+zero-made NoCycleRoom e = absurd (omega arith)
+zero-made NotAnOpcode e = absurd (omega arith)
+zero-made BoundTooHigh e = absurd (omega arith)
+
+pub other-refused : (r : Reason) → (number r ≡ 0 → ⊥) → isMade r ≡ false
+other-refused Made f = absurd (f refl)
+other-refused MemoryNotFull f = refl
+other-refused NoCycleRoom f = refl
+other-refused NotAnOpcode f = refl
+other-refused BoundTooHigh f = refl
+
+-- the two numbers of a machine
+abbrev pub numberOf : Machine → ℕ
+numberOf s = packed (s .registers) (s .nmi)
+
+abbrev pub countOf : Machine → ℕ
+countOf s = s .cycles
+
+-- where no step was made the machine does not matter
+picked : (f : Machine → ℕ) (t : Bool) (w s : Machine) (v : ℕ) → cond t (f (cond t w s)) v ≡ cond t (f w) v
+picked f true w s v = refl
+picked f false w s v = refl
+
+-- A number of the machine, which stays as it was given until a step is made: after more steps it is that of the machine then.
+pub onward : (f : Machine → ℕ) (total k v₀ v : ℕ) (w s : Machine) → v ≡ cond (ltb 0 total) (f s) v₀
+    → cond (ltb 0 k) (f w) v ≡ cond (ltb 0 (total + k)) (f (cond (ltb 0 k) w s)) v₀
+onward f total zero v₀ v w s e = let same : total + 0 ≡ total = omega arith in rw same e
+onward f total (suc k) v₀ v w s e = rw (lt-ltb 0 (suc k) (omega arith), lt-ltb 0 (total + suc k) (omega arith))
 
 module _ (lines registers cycles : ℕ) (m : List ℕ) where
   abbrev present : Lines
@@ -35,57 +76,114 @@ module _ (lines registers cycles : ℕ) (m : List ℕ) where
 
   -- ---- on a full memory
 
-  pub travel-gives : (bound : ℕ) {w : Travelled} {m′ : List ℕ} → Gives (travelling bound 0 0 present start) m w m′
-      → Gives (travelOnNumbers bound lines registers cycles) m (travelNumbers registers cycles w) m′
-  unfolding travelOnNumbers
-  travel-gives bound g = then (travelling bound 0 0 present start) _ m g refl
+  pub turn-gives : (bound : ℕ) {w : Travelled} {m′ : List ℕ} → Gives (turning bound present start) m w m′
+      → Gives (turnOnNumbers bound lines registers cycles) m (turnNumbers registers cycles w) m′
+  unfolding turnOnNumbers
+  turn-gives bound g = then (turning bound present start) _ m g refl
 
-  -- the run's own answer is behind the numbers that come back
-  travelled-of : (bound : ℕ) {v : TravelNumbers} {m′ : List ℕ} → Gives (travelOnNumbers bound lines registers cycles) m v m′
-      → _≡_ {A = TravelNumbers × List ℕ} (travelNumbers registers cycles (exec (travelling bound 0 0 present start) m .0), exec (travelling bound 0 0 present start) m .1) (v, m′)
-  unfolding travelOnNumbers
-  travelled-of bound g = sym (exec-bind (travelling bound 0 0 present start) _ m) ∙ g
+  -- the turn's own answer is behind the numbers that come back
+  pub turn-of : (bound : ℕ) {v : TurnNumbers} {m′ : List ℕ} → Gives (turnOnNumbers bound lines registers cycles) m v m′
+      → _≡_ {A = TurnNumbers × List ℕ} (turnNumbers registers cycles (exec (turning bound present start) m .0), exec (turning bound present start) m .1) (v, m′)
+  unfolding turnOnNumbers
+  turn-of bound g = sym (exec-bind (turning bound present start) _ m) ∙ g
 
-  ended-of : TravelNumbers × List ℕ → RunNumbers × List ℕ
-  ended-of w = (w .0 .ended, w .1)
+  pub run-gives : (bound : ℕ) {q : Ended} {m′ : List ℕ} → Gives (runFull bound 0 present start) m q m′
+      → Gives (runFullOnNumbers bound lines registers cycles) m (runNumbers registers cycles q) m′
+  unfolding runFullOnNumbers
+  run-gives bound g = then (runFull bound 0 present start) _ m g refl
 
-  -- a run drops the address
-  run-of : (bound : ℕ) (p : Micro Ended) {v : TravelNumbers} {m′ : List ℕ} → p ≡ runFull bound 0 present start
-      → Gives (travelOnNumbers bound lines registers cycles) m v m′
-      → Gives (p >>= λ (q : Ended). done (runNumbers registers cycles q)) m (v .ended) m′
-  unfolding ended-of
-  run-of bound p e g =
-      let w = exec (travelling bound 0 0 present start) m in
-      rw e (then (runFull bound 0 present start) _ m (travel-run bound 0 0 present start m {w = w .0} {m′ = w .1} refl) refl ∙ ap ended-of (travelled-of bound g))
+  pub run-of : (bound : ℕ) {v : RunNumbers} {m′ : List ℕ} → Gives (runFullOnNumbers bound lines registers cycles) m v m′
+      → _≡_ {A = RunNumbers × List ℕ} (runNumbers registers cycles (exec (runFull bound 0 present start) m .0), exec (runFull bound 0 present start) m .1) (v, m′)
+  unfolding runFullOnNumbers
+  run-of bound g = sym (exec-bind (runFull bound 0 present start) _ m) ∙ g
 
-  pub run-on-full : (size bound : ℕ) {v : TravelNumbers} {m′ : List ℕ} → size ≡ fullMemory → bound ≤ highestBound
-      → Gives (travelOnNumbers bound lines registers cycles) m v m′ → Gives (runOnNumbers size bound lines registers cycles) m (v .ended) m′
-  unfolding runOnNumbers
-  run-on-full size bound f h g = run-of bound (run size bound present start) (run-whole size bound present start f h) g
+  pub run-on-full : (size bound : ℕ) {v : RunNumbers} {m′ : List ℕ} → size ≡ fullMemory → bound ≤ highestBound
+      → Gives (runFullOnNumbers bound lines registers cycles) m v m′ → Gives (runOnNumbers size bound lines registers cycles) m v m′
+  unfolding runOnNumbers runFullOnNumbers
+  run-on-full size bound f h g = rw (run-whole size bound present start f h) g
 
-  pub long-run-on-full : (size bound : ℕ) {v : TravelNumbers} {m′ : List ℕ} → size ≡ fullMemory
-      → Gives (travelOnNumbers bound lines registers cycles) m v m′ → Gives (longRunOnNumbers size bound lines registers cycles) m (v .ended) m′
-  unfolding longRunOnNumbers
-  long-run-on-full size bound f g = run-of bound (longRun size bound present start) (long-whole size bound present start f) g
+  pub long-run-on-full : (size bound : ℕ) {v : RunNumbers} {m′ : List ℕ} → size ≡ fullMemory
+      → Gives (runFullOnNumbers bound lines registers cycles) m v m′ → Gives (longRunOnNumbers size bound lines registers cycles) m v m′
+  unfolding longRunOnNumbers runFullOnNumbers
+  long-run-on-full size bound f g = rw (long-whole size bound present start f) g
 
   -- a step drops the count
-  abbrev pub uncounted : TravelNumbers → StepNumbers
+  abbrev pub uncounted : TurnNumbers → StepNumbers
   uncounted w = record { answer = w .ended .answer; first = w .first; registers = w .ended .registers; cycles = w .ended .cycles }
 
-  step-of : TravelNumbers × List ℕ → StepNumbers × List ℕ
+  step-of : TurnNumbers × List ℕ → StepNumbers × List ℕ
   step-of w = (uncounted (w .0), w .1)
 
-  pub step-on-full : (size : ℕ) {v : TravelNumbers} {m′ : List ℕ} → size ≡ fullMemory → Gives (travelOnNumbers 1 lines registers cycles) m v m′
+  pub step-on-full : (size : ℕ) {v : TurnNumbers} {m′ : List ℕ} → size ≡ fullMemory → Gives (turnOnNumbers 1 lines registers cycles) m v m′
       → Gives (stepOnNumbers size lines registers cycles) m (uncounted v) m′
   unfolding stepOnNumbers step-of
   step-on-full size f g =
-      let w = exec (travelling 1 0 0 present start) m in
-      let made = one-made (run-ends 1 present start m {q = w .0 .ended} {m′ = w .1} (travel-run 1 0 0 present start m {w = w .0} {m′ = w .1} refl)) in
-      let one : Gives (step size present start) m (stepped (w .0 .ended .reason) (w .0 .first) (w .0 .ended .machine)) (w .1) =
-      rw (step-whole size present start f) (travel-step 0 present start m {w = w .0} {m′ = w .1} refl) in
+      let w = exec (turning 1 present start) m in
+      let t = ltb 0 (w .0 .ended .steps) in
+      let full : Gives (travelling 1 0 0 present start) m (travelled (w .0 .first) (settled start (w .0 .ended))) (w .1) =
+      rw (one-step (due present start)) at (turned 1 present start m {r = w .0} {m′ = w .1} refl) in
+      let made = one-made (run-ends 1 present start m (travel-run 1 0 0 present start m full)) in
+      let one : Gives (step size present start) m (stepped (w .0 .ended .reason) (w .0 .first) (settled start (w .0 .ended) .machine)) (w .1) =
+      rw (step-whole size present start f) (turn-step present start m {r = w .0} {m′ = w .1} refl) in
       then (step size present start) _ m one refl
-      ∙ ap (λ (b : Bool). (record { answer = number (w .0 .ended .reason); first = w .0 .first; registers = registersAfter b (w .0 .ended .machine) registers; cycles = cyclesAfter b (w .0 .ended .machine) cycles }, w .1)) made
-      ∙ ap step-of (travelled-of 1 g)
+      ∙ ap (λ (b : Bool). (record { answer = number (w .0 .ended .reason); first = w .0 .first; registers = registersAfter b (settled start (w .0 .ended) .machine) registers; cycles = cyclesAfter b (settled start (w .0 .ended) .machine) cycles }, w .1)) made
+      ∙ ap (λ (k : ℕ). (record { answer = number (w .0 .ended .reason); first = w .0 .first; registers = k; cycles = cyclesAfter t (settled start (w .0 .ended) .machine) cycles }, w .1)) (picked numberOf t (w .0 .ended .machine) start registers)
+      ∙ ap (λ (k : ℕ). (record { answer = number (w .0 .ended .reason); first = w .0 .first; registers = registersAfter t (w .0 .ended .machine) registers; cycles = k }, w .1)) (picked countOf t (w .0 .ended .machine) start cycles)
+      ∙ ap step-of (turn-of 1 g)
+
+  -- ---- by cycles, from the numbers of the lifted run
+
+  module _ (limit by : ℕ) (is : by ≡ lift cycles limit) {v : RunNumbers} {m′ : List ℕ} (g : Gives (runFullOnNumbers limit lines registers (cycles + by)) m v m′) where
+    abbrev w : Ended × List ℕ
+    w = exec (runFull limit 0 present (lifted by start)) m
+
+    abbrev t : Bool
+    t = ltb 0 (w .0 .steps)
+
+    high : _≡_ {A = RunNumbers × List ℕ} (runNumbers registers (cycles + by) (w .0), w .1) (v, m′)
+    unfolding runFullOnNumbers
+    high = sym (exec-bind (runFull limit 0 present (lifted by start)) _ m) ∙ g
+
+    split : (b : Bool) (q s : Machine) → cond b (q .cycles) (s .cycles) ≡ cond b q s .cycles
+    split true q s = refl
+    split false q s = refl
+
+    -- the count that comes back is the lifted machine's, also where no step was made
+    count : v .cycles ≡ w .0 .machine .cycles
+    count =
+        sym (ap (λ (z : RunNumbers × List ℕ). z .0 .cycles) high)
+        ∙ split t (levelled (present .nmi) (w .0 .machine)) (lifted by start)
+        ∙ ap (λ (q : Machine). q .cycles) (settles limit present (lifted by start) m (run-ends limit present (lifted by start) m {q = w .0} {m′ = w .1} refl))
+
+    pub cycles-least : by ≤ v .cycles
+    cycles-least = omega (arith, count, lifted-least start limit present m by is {q = w .0} {m′ = w .1} refl)
+
+    lower : (b : Bool) (k : ℕ) → cond b (k - by) cycles ≡ cond b k (cycles + by) - by
+    lower true k = refl
+    lower false k = omega arith
+
+    -- the numbers of a run by cycles, whatever it answers
+    numbers : (r : Reason) (a : ℕ) → number r ≡ a
+        → _≡_ {A = RunNumbers × List ℕ} (runNumbers registers cycles (ended r (w .0 .steps) (lowered by (w .0 .machine))), w .1)
+        (record { answer = a; steps = v .steps; registers = v .registers; cycles = v .cycles - by }, m′)
+    numbers r a e =
+        ap (λ (k : ℕ). (record { answer = k; steps = w .0 .steps; registers = registersAfter t (w .0 .machine) registers; cycles = cond t (w .0 .machine .cycles - by) cycles }, w .1)) e
+        ∙ ap (λ (k : ℕ). (record { answer = a; steps = w .0 .steps; registers = registersAfter t (w .0 .machine) registers; cycles = k }, w .1)) (lower t (w .0 .machine .cycles))
+        ∙ ap (λ (z : RunNumbers × List ℕ). (record { answer = a; steps = z .0 .steps; registers = z .0 .registers; cycles = z .0 .cycles - by }, z .1)) high
+
+    pub cycles-spent : (size : ℕ) → size ≡ fullMemory → limit ≤ highestBound → leb (cycles + limit) (v .cycles - by) ≡ true
+        → Gives (runCyclesOnNumbers size limit lines registers cycles) m (record { answer = 0; steps = v .steps; registers = v .registers; cycles = v .cycles - by }) m′
+    unfolding runCyclesOnNumbers
+    cycles-spent size f h e =
+        rw (cycles-whole size limit present start [] f h)
+        (then (spendFull limit (cycles + limit) 0 present start) _ m (lifted-spent start limit present m by is {q = w .0} {m′ = w .1} refl (rw count at e)) refl ∙ numbers Made 0 refl)
+
+    pub cycles-unspent : (size : ℕ) → size ≡ fullMemory → limit ≤ highestBound → leb (cycles + limit) (v .cycles - by) ≡ false
+        → Gives (runCyclesOnNumbers size limit lines registers cycles) m (record { answer = v .answer; steps = v .steps; registers = v .registers; cycles = v .cycles - by }) m′
+    unfolding runCyclesOnNumbers
+    cycles-unspent size f h e =
+        rw (cycles-whole size limit present start [] f h)
+        (then (spendFull limit (cycles + limit) 0 present start) _ m (lifted-unspent start limit present m by is {q = w .0} {m′ = w .1} refl (rw count at e)) refl ∙ numbers (w .0 .reason) (v .answer) (ap (λ (z : RunNumbers × List ℕ). z .0 .answer) high))
 
   -- ---- refused before it
 
@@ -103,6 +201,16 @@ module _ (lines registers cycles : ℕ) (m : List ℕ) where
       → Gives (longRunOnNumbers size bound lines registers cycles) m (record { answer = 1; steps = 0; registers = registers; cycles = cycles }) m
   unfolding longRunOnNumbers
   long-run-short-memory size bound f = then (longRun size bound present start) _ m (long-short size bound present start m f) refl
+
+  pub cycles-short-memory : (size limit : ℕ) → (size ≡ fullMemory → ⊥)
+      → Gives (runCyclesOnNumbers size limit lines registers cycles) m (record { answer = 1; steps = 0; registers = registers; cycles = cycles }) m
+  unfolding runCyclesOnNumbers
+  cycles-short-memory size limit f = then (runCycles size limit present start) _ m (cycles-short size limit present start m f) refl
+
+  pub cycles-long-limit : (size limit : ℕ) → size ≡ fullMemory → highestBound < limit
+      → Gives (runCyclesOnNumbers size limit lines registers cycles) m (record { answer = 4; steps = 0; registers = registers; cycles = cycles }) m
+  unfolding runCyclesOnNumbers
+  cycles-long-limit size limit f h = then (runCycles size limit present start) _ m (cycles-long size limit present start m f h) refl
 
   pub step-short-memory : (size : ℕ) → (size ≡ fullMemory → ⊥)
       → Gives (stepOnNumbers size lines registers cycles) m (record { answer = 1; first = 0; registers = registers; cycles = cycles }) m

@@ -10,9 +10,10 @@ use Rattle.manual.specs.declared.Stepped.{Stepped}
 use Rattle.manual.specs.declared.Ended.{Ended}
 use Rattle.manual.specs.Micro.{Micro, done, _>>=_}
 use Rattle.manual.specs.Outcomes.{machineOf, number, isMade}
-use Rattle.manual.specs.Stepping.{step, run, longRun}
+use Rattle.manual.specs.Stepping.{step, runFull, run, longRun}
+use Rattle.manual.specs.Spending.{runCycles}
 use Rattle.cpu.specs.declared.Travelled.{Travelled}
-use Rattle.cpu.specs.Travelling.{travelling}
+use Rattle.cpu.specs.Turning.{turning}
 
 abbrev pub machineFrom : ℕ → ℕ → Machine
 machineFrom registers cycles = machineOf (unpacked registers) cycles (unpackedNmi registers)
@@ -73,15 +74,26 @@ longRunOnNumbers size bound lines registers cycles = do
   q ← longRun size bound (linesFrom lines) (machineFrom registers cycles)
   done (runNumbers registers cycles q)
 
--- what comes back of either: a run's numbers, and the address that the last step put out first
-pub record TravelNumbers : Type 0 where
+unfoldable pub runCyclesOnNumbers : ℕ → ℕ → ℕ → ℕ → ℕ → Micro RunNumbers
+runCyclesOnNumbers size limit lines registers cycles = do
+  q ← runCycles size limit (linesFrom lines) (machineFrom registers cycles)
+  done (runNumbers registers cycles q)
+
+-- any number of steps on a full memory
+unfoldable pub runFullOnNumbers : ℕ → ℕ → ℕ → ℕ → Micro RunNumbers
+runFullOnNumbers bound lines registers cycles = do
+  q ← runFull bound 0 (linesFrom lines) (machineFrom registers cycles)
+  done (runNumbers registers cycles q)
+
+-- what comes back of a turn: a run's numbers, and the address that its last step put out first
+pub record TurnNumbers : Type 0 where
   pub first : ℕ
   pub ended : RunNumbers
 
-abbrev pub travelNumbers : ℕ → ℕ → Travelled → TravelNumbers
-travelNumbers registers cycles w = record { first = w .first; ended = runNumbers registers cycles (w .ended) }
+abbrev pub turnNumbers : ℕ → ℕ → Travelled → TurnNumbers
+turnNumbers registers cycles w = record { first = w .first; ended = runNumbers registers cycles (w .ended) }
 
-unfoldable pub travelOnNumbers : ℕ → ℕ → ℕ → ℕ → Micro TravelNumbers
-travelOnNumbers bound lines registers cycles = do
-  w ← travelling bound 0 0 (linesFrom lines) (machineFrom registers cycles)
-  done (travelNumbers registers cycles w)
+unfoldable pub turnOnNumbers : ℕ → ℕ → ℕ → ℕ → Micro TurnNumbers
+turnOnNumbers bound lines registers cycles = do
+  w ← turning bound (linesFrom lines) (machineFrom registers cycles)
+  done (turnNumbers registers cycles w)

@@ -1,14 +1,18 @@
 // The core on numbers, for a host in C or Rust: see host/mos6502.h.
 ghost use mathlib.Core.Path.{_≡_};
-ghost use mathlib.Core.Bool.{true};
+ghost use mathlib.Core.Bool.{true, cond};
 ghost use lib.ListN.{length};
 ghost use Rattle.registers.specs.State.{registersOf};
 ghost use Rattle.registers.specs.StatusByte.{bit, pushedByte, pulledStatus};
 ghost use Rattle.packing.specs.Packed.{packed, unpacked, unpackedNmi};
-ghost use Rattle.manual.specs.Micro.{Gives};
 ghost use Rattle.manual.specs.Stepping.{fullMemory};
-ghost use Rattle.mos6502.specs.Numbers.{machineFrom, linesFrom, registersAfter, cyclesAfter, stepOnNumbers, runOnNumbers, longRunOnNumbers, travelOnNumbers};
-use cpu::travel;
+ghost use Rattle.manual.specs.Micro.{exec, Gives};
+ghost use Rattle.cpu.specs.Turning.{Calm, turning, settled};
+ghost use Rattle.mos6502.specs.Numbers.{machineFrom, linesFrom, registersAfter, cyclesAfter, stepOnNumbers, runOnNumbers, longRunOnNumbers, runCyclesOnNumbers, runFullOnNumbers, turnOnNumbers};
+use cpu::lift;
+use cpu::reach;
+use cpu::spent;
+use cpu::turn;
 use manual::FULL_MEMORY;
 use manual::HIGHEST_BOUND;
 use manual::Lines;
@@ -115,6 +119,8 @@ fn lines_from(lines: u8) -> Lines
 fn hand_back(made: bool, machine: Machine, registers: &mut u64, cycles: &mut u64)
     ensures { λ r. ⌜ now (registers .exit) ≡ registersAfter made machine (now (registers .entry)) ⌝ }
     ensures { λ r. ⌜ now (cycles .exit) ≡ cyclesAfter made machine (now (cycles .entry)) ⌝ }
+    ensures { λ r.
+        ⌜ machineFrom (now (registers .exit)) (now (cycles .exit)) ≡ cond made machine (machineFrom (now (registers .entry)) (now (cycles .entry))) ⌝ }
 {
     if made {
         let after = machine.registers;
@@ -123,8 +129,8 @@ fn hand_back(made: bool, machine: Machine, registers: &mut u64, cycles: &mut u64
     }
 }
 
-// At most `bound` steps on numbers. The three functions below call this one, and it alone calls `travel`: so the compiler
-// makes one function of the loop and of what stands around it, and no record goes through memory.
+// A turn on numbers. The functions below call this one, and it alone calls `turn`: so the compiler makes one function of the
+// loop and of what stands around it, and no record goes through memory. The numbers are again those of the machine that is left.
 fn advance(
     registers: &mut u64,
     cycles: &mut u64,
@@ -134,29 +140,68 @@ fn advance(
     lines: u8,
     memory: &mut [u8],
 ) -> u8
-    requires { ⌜ length (now memory) ≡ fullMemory ⌝ }
+    requires { ⌜ (length (now memory) ≡ fullMemory) × Calm (linesFrom lines) bound ⌝ }
     ensures { λ r.
         ⌜ Gives
-        (travelOnNumbers bound lines (now (registers .entry)) (now (cycles .entry)))
+        (turnOnNumbers bound lines (now (registers .entry)) (now (cycles .entry)))
         (now (memory .entry))
         (record {
           first = now (first .exit);
           ended = record { answer = r; steps = now (steps .exit); registers = now (registers .exit); cycles = now (cycles .exit) };
         })
         (now (memory .exit)) ⌝ }
+    ensures { λ r.
+        ⌜ machineFrom (now (registers .exit)) (now (cycles .exit))
+        ≡ settled
+        (machineFrom (now (registers .entry)) (now (cycles .entry)))
+        (exec (turning bound (linesFrom lines) (machineFrom (now (registers .entry)) (now (cycles .entry)))) (now (memory .entry)) .0 .ended)
+        .machine ⌝ }
 {
-    let travelled = travel(
+    let turned = turn(
         machine_from(*registers, *cycles),
         bound,
         lines_from(lines),
         memory,
     );
-    *first = travelled.first;
-    let ended = travelled.ended;
+    *first = turned.first;
+    let ended = turned.ended;
     let reason = ended.reason;
     *steps = ended.steps;
     hand_back(0 < ended.steps, ended.machine, registers, cycles);
     reason.number()
+}
+
+// At most `bound` steps on numbers, turn by turn.
+fn go_on(
+    registers: &mut u64,
+    cycles: &mut u64,
+    steps: &mut u64,
+    bound: u64,
+    lines: u8,
+    memory: &mut [u8],
+) -> u8
+    requires { ⌜ length (now memory) ≡ fullMemory ⌝ }
+    ensures { λ r.
+        ⌜ Gives
+        (runFullOnNumbers bound lines (now (registers .entry)) (now (cycles .entry)))
+        (now (memory .entry))
+        (record { answer = r; steps = now (steps .exit); registers = now (registers .exit); cycles = now (cycles .exit) })
+        (now (memory .exit)) ⌝ }
+{
+    let mut total: u64 = 0;
+    let mut made: u64 = 0;
+    let mut first: u16 = 0;
+    while total < bound {
+        let far = reach(lines_from(lines).irq, bound - total);
+        let answer = advance(registers, cycles, &mut made, &mut first, far, lines, memory);
+        total += made;
+        if answer != 0 {
+            *steps = total;
+            return answer;
+        }
+    }
+    *steps = total;
+    0
 }
 
 // A step with the levels of `lines`: bit 0 is set where NMI is low, bit 1 where IRQ is. A refusal leaves both numbers and the
@@ -209,8 +254,7 @@ pub extern "C" fn mos6502_run(
         *steps = 0;
         return 4;
     }
-    let mut first: u16 = 0;
-    advance(registers, cycles, steps, &mut first, bound, lines, memory)
+    go_on(registers, cycles, steps, bound, lines, memory)
 }
 
 // A run of any number of steps. Where it makes none, both numbers stay as they were.
@@ -234,6 +278,40 @@ pub extern "C" fn mos6502_long_run(
         *steps = 0;
         return 1;
     }
-    let mut first: u16 = 0;
-    advance(registers, cycles, steps, &mut first, bound, lines, memory)
+    go_on(registers, cycles, steps, bound, lines, memory)
+}
+
+// A run that is over when `limit` or more cycles are spent, by a lifted count. Where it makes no step, both numbers stay as they
+// were.
+#[no_mangle]
+pub extern "C" fn mos6502_run_cycles(
+    registers: &mut u64,
+    cycles: &mut u64,
+    steps: &mut u64,
+    limit: u64,
+    lines: u8,
+    memory: &mut [u8],
+) -> u8
+    ensures { λ r.
+        ⌜ Gives
+        (runCyclesOnNumbers (length (now (memory .entry))) limit lines (now (registers .entry)) (now (cycles .entry)))
+        (now (memory .entry))
+        (record { answer = r; steps = now (steps .exit); registers = now (registers .exit); cycles = now (cycles .exit) })
+        (now (memory .exit)) ⌝ }
+{
+    if memory.len() != FULL_MEMORY {
+        *steps = 0;
+        return 1;
+    }
+    if HIGHEST_BOUND < limit {
+        *steps = 0;
+        return 4;
+    }
+    let from = *cycles;
+    let by = lift(from, limit);
+    *cycles = from + by;
+    let answer = go_on(registers, cycles, steps, limit, lines, memory);
+    let count = *cycles - by;
+    *cycles = count;
+    if spent(from, limit, count) { 0 } else { answer }
 }

@@ -6,9 +6,10 @@ use registers::Status;
 use registers::flag;
 
 // A, X, Y, S and the status as PHP pushes it in a byte each from the lowest on, then the counter, and bit 56 where the level
-// was low.
+// was low. Unpacked again it is the same.
 pub fn pack(registers: Registers, nmi: bool) -> u64
     ensures { λ r. ⌜ r ≡ packed registers nmi ⌝ }
+    ensures { λ r. ⌜ (unpacked r ≡ registers) × (unpackedNmi r ≡ nmi) ⌝ }
 {
     (registers.accumulator as u64)
         + (registers.x as u64) * 0x100

@@ -1,0 +1,118 @@
+-- A run on numbers, turn by turn: what holds before each turn, and what one turn makes of it.
+use Prim.Native.Nat.{ℕ, _+_, _-_, _≤_, _<_}
+use mathlib.Core.Bool.{Bool, true, false, cond}
+use mathlib.Core.Path.{_≡_, refl, ap, sym, _∙_, subst}
+use mathlib.Core.List.{List}
+use native.Mathlib.Omega.{arith}
+use lib.Dec.{ltb}
+use Rattle.manual.specs.declared.Lines.{Lines}
+use Rattle.manual.specs.declared.Machine.{Machine}
+use Rattle.manual.specs.declared.Ended.{Ended}
+use Rattle.manual.specs.declared.Reason.the-variants.{Made}
+use Rattle.manual.specs.Micro.{exec, Gives}
+use Rattle.manual.specs.Outcomes.{ended}
+use Rattle.manual.specs.Stepping.{runFull}
+use Rattle.manual.specs.Theorems.StepLaws.{run-end}
+use Rattle.manual.specs.Theorems.Lunch.{added}
+use Rattle.cpu.specs.declared.Travelled.{Travelled}
+use Rattle.cpu.specs.Turning.{reach, turning, settled, turn-few, turn-stops, turn-goes, added-none, added-twice}
+use Rattle.mos6502.specs.Numbers.{machineFrom, linesFrom, TurnNumbers, turnNumbers, turnOnNumbers, runFullOnNumbers}
+use Rattle.mos6502.specs.Laws.{zero-made, other-refused, numberOf, countOf, onward, turn-of, run-gives}
+
+-- Of a run of `bound` steps `total` are made: what is left of it goes on from the numbers, which are as they were given where none is.
+pub record Round (bound lines registers₀ cycles₀ : ℕ) (m₀ : List ℕ) (total registers cycles : ℕ) (m : List ℕ) : Type 0 where
+  pub rest : exec (runFull bound 0 (linesFrom lines) (machineFrom registers₀ cycles₀)) m₀
+      ≡ added total (exec (runFull (bound - total) 0 (linesFrom lines) (machineFrom registers cycles)) m)
+  pub numbers : registers ≡ cond (ltb 0 total) (numberOf (machineFrom registers cycles)) registers₀
+  pub count : cycles ≡ cond (ltb 0 total) (countOf (machineFrom registers cycles)) cycles₀
+
+pub at-first : (bound lines registers cycles : ℕ) (m : List ℕ) → Round bound lines registers cycles m 0 registers cycles m
+at-first bound lines registers cycles m = record {
+  rest = let e : bound ≡ bound - 0 = omega arith in
+      ap (λ (n : ℕ). exec (runFull n 0 (linesFrom lines) (machineFrom registers cycles)) m) e ∙ added-none _;
+  numbers = refl;
+  count = refl;
+}
+
+module _ (bound lines registers₀ cycles₀ : ℕ) (m₀ : List ℕ) (total registers cycles : ℕ) (m : List ℕ) (round : Round bound lines registers₀ cycles₀ m₀ total registers cycles m) where
+  abbrev present : Lines
+  present = linesFrom lines
+
+  abbrev machine : Machine
+  machine = machineFrom registers cycles
+
+  -- where all steps are made
+  pub at-last : total ≡ bound
+      → Gives (runFullOnNumbers bound lines registers₀ cycles₀) m₀ (record { answer = 0; steps = total; registers = registers; cycles = cycles }) m
+  at-last e =
+      let none : bound - total ≡ 0 = omega arith in
+      let same : total + 0 ≡ total = omega arith in
+      run-gives lines registers₀ cycles₀ m₀ bound
+      (round .rest
+      ∙ ap (λ (n : ℕ). added total (exec (runFull n 0 present machine) m)) none
+      ∙ ap (added total) (run-end 0 present machine m)
+      ∙ ap (λ (k : ℕ). (ended Made k machine, m)) same)
+      ∙ rw (sym (round .numbers), sym (round .count))
+
+  module _ (l : total < bound) where
+    abbrev n : ℕ
+    n = bound - total
+
+    left : 0 < n
+    left = omega arith
+
+    abbrev far : ℕ
+    far = reach (present .irq) n
+
+    abbrev w : Travelled × List ℕ
+    w = exec (turning far present machine) m
+
+    -- What a turn makes of it.
+    pub record Turns (v : TurnNumbers) (m′ : List ℕ) : Type 0 where
+      pub few : total + v .ended .steps ≤ bound
+      pub goes : v .ended .answer ≡ 0
+          → (0 < v .ended .steps) × Round bound lines registers₀ cycles₀ m₀ (total + v .ended .steps) (v .ended .registers) (v .ended .cycles) m′
+      pub stops : (v .ended .answer ≡ 0 → ⊥)
+          → Gives (runFullOnNumbers bound lines registers₀ cycles₀) m₀ (record { answer = v .ended .answer; steps = total + v .ended .steps; registers = v .ended .registers; cycles = v .ended .cycles }) m′
+
+    abbrev v : TurnNumbers
+    v = turnNumbers registers cycles (w .0)
+
+    abbrev q : Ended
+    q = settled machine (w .0 .ended)
+
+    registers-on : v .ended .registers ≡ cond (ltb 0 (total + q .steps)) (numberOf (q .machine)) registers₀
+    registers-on = onward numberOf total (q .steps) registers₀ registers (w .0 .ended .machine) machine (round .numbers)
+
+    cycles-on : v .ended .cycles ≡ cond (ltb 0 (total + q .steps)) (countOf (q .machine)) cycles₀
+    cycles-on = onward countOf total (q .steps) cycles₀ cycles (w .0 .ended .machine) machine (round .count)
+
+    turns : machineFrom (v .ended .registers) (v .ended .cycles) ≡ q .machine → Turns v (w .1)
+    turns same = record {
+      few = omega (arith, turn-few present machine n left m {r = w .0} {m′ = w .1} refl);
+      goes = λ e.
+          let g = turn-goes present machine n left m {r = w .0} {m′ = w .1} refl (zero-made (q .reason) e) in
+          let less : n - q .steps ≡ bound - (total + q .steps) = omega arith in (
+            g .0,
+            record {
+              rest = round .rest
+                  ∙ ap (added total) (g .1)
+                  ∙ added-twice total (q .steps) _
+                  ∙ ap (λ (k : ℕ). added (total + q .steps) (exec (runFull k 0 present (q .machine)) (w .1))) less
+                  ∙ ap (λ (s : Machine). added (total + q .steps) (exec (runFull (bound - (total + q .steps)) 0 present s) (w .1))) (sym same);
+              numbers = registers-on ∙ ap (λ (s : Machine). cond (ltb 0 (total + q .steps)) (numberOf s) registers₀) (sym same);
+              count = cycles-on ∙ ap (λ (s : Machine). cond (ltb 0 (total + q .steps)) (countOf s) cycles₀) (sym same);
+            },
+          );
+      stops = λ f.
+          run-gives lines registers₀ cycles₀ m₀ bound
+          (round .rest ∙ ap (added total) (turn-stops present machine n left m {r = w .0} {m′ = w .1} refl (other-refused (q .reason) f)))
+          ∙ rw (sym registers-on, sym cycles-on);
+    }
+
+    -- from what comes back of the turn
+    pub round-turns : {v : TurnNumbers} {m′ : List ℕ} → Gives (turnOnNumbers far lines registers cycles) m v m′
+        → machineFrom (v .ended .registers) (v .ended .cycles) ≡ q .machine
+        → Turns v m′
+    round-turns g =
+        subst (λ (z : TurnNumbers × List ℕ). machineFrom (z .0 .ended .registers) (z .0 .ended .cycles) ≡ q .machine → Turns (z .0) (z .1)) (turn-of lines registers cycles m far g) turns
