@@ -4,7 +4,7 @@ ghost use lib.ListN.{length};
 ghost use Rattle.manual.specs.Micro.{exec};
 ghost use Rattle.manual.specs.Stepping.{step};
 ghost use Rattle.replay.specs.Comparison.{machineAt, linesAt, levelsByte, compared, judged};
-use cpu::single_step;
+use desk::step_by_record;
 use manual::Lines;
 use manual::Machine;
 use registers::Registers;
@@ -96,7 +96,7 @@ fn compare(machine: Machine, lines: Lines, state: State, same: bool) -> Verdict
     Verdict::Memory
 }
 
-// Makes the step, and compares the answer, the machine and the whole memory after it.
+// Makes the step by a lent record, and compares the answer, the machine and the whole memory after it.
 pub(crate) fn judge(before: State, after: State, memory: &mut [u8], expected: &[u8]) -> Verdict
     ensures { λ r.
         ⌜ r
@@ -107,7 +107,7 @@ pub(crate) fn judge(before: State, after: State, memory: &mut [u8], expected: &[
         (now (expected .entry)) ⌝ }
 {
     let lines = lines_at(before);
-    let stepped = single_step(machine_at(before), lines, memory);
+    let stepped = step_by_record(machine_at(before), lines, memory);
     let reason = stepped.reason;
     if reason.number() != after.number {
         return Verdict::Answer;

@@ -1,4 +1,4 @@
--- What the step gives is what `single_step` promises; the test of the memories decides their equality.
+-- What the step gives is what `step_by_record` promises; the test of the memories decides their equality.
 use borrow.Author.Needs.{needs}
 use borrow.Author.Tests.{eq-eqb, ne-eqb}
 use Rattle.replay.specs.Comparison.{judged}
@@ -13,7 +13,7 @@ returns c =
     rw (
       ← c₅ .before .before .before .lines-at .ensures,
       ← c₅ .before .before .machine-at .ensures,
-      c₅ .single-step .ensures,
+      c₅ .step-by-record .ensures,
       ← c .before .before .number .ensures,
       ne-eqb _ _ (c .if1 .taken),
     )
@@ -26,7 +26,7 @@ returns-2 c =
     rw (
       ← c₈ .before .before .before .lines-at .ensures,
       ← c₈ .before .before .machine-at .ensures,
-      c₈ .single-step .ensures,
+      c₈ .step-by-record .ensures,
       ← c₃ .before .before .number .ensures,
       eq-eqb _ _ (c₃ .if1 .left),
       ← decides _ _ _ (c .before .same .ensures .0) (c .before .same .ensures .1),
