@@ -115,6 +115,19 @@ impl Machine {
         Some(machine)
     }
 
+    /// One step as by [`single_step`], on a machine that is kept in a record: it is renewed, and stays as it was where the step
+    /// is refused. The answer is the same.
+    #[inline]
+    pub fn step(&mut self, lines: Lines, memory: &mut [u8]) -> StepAnswer {
+        let answer = single_step(*self, lines, memory);
+        let (StepAnswer::Made { machine, .. }
+        | StepAnswer::MemoryNotFull(machine)
+        | StepAnswer::NoCycleRoom(machine)
+        | StepAnswer::NotAnOpcode(machine)) = answer;
+        *self = machine;
+        answer
+    }
+
     /// The number that the C functions take for the registers, with the last level of NMI.
     #[inline]
     fn number(self) -> u64 {

@@ -601,6 +601,47 @@ fn a_step_that_is_made_records_the_level_of_nmi_and_a_refused_one_keeps_it() {
     }
 }
 
+/// Whether a step on a record was made: it answers and stores what the step by value does, and the record is renewed as a whole
+/// or, in a refusal, as it was.
+fn renewed(before: Machine, lines: Lines, mut memory: Vec<u8>) -> bool {
+    let mut lent = memory.clone();
+    let given = memory.clone();
+    let mut record = before;
+    let answer = record.step(lines, &mut lent);
+    assert_eq!(answer, single_step(before, lines, &mut memory));
+    assert_eq!(lent, memory);
+    if let StepAnswer::Made { machine, .. } = answer {
+        assert_eq!(record, machine);
+        assert!(record.cycles > before.cycles);
+        assert_eq!(record.last_nmi, lines.nmi);
+        return true;
+    }
+    assert_eq!((record, lent), (before, given));
+    false
+}
+
+#[test]
+fn a_record_is_renewed_by_a_step_and_stays_as_it_was_in_a_refusal() {
+    for last_nmi in [Level::High, Level::Low] {
+        for lines in [Lines::IDLE, Lines::NMI_LOW, Lines::IRQ_LOW] {
+            let before = Machine {
+                last_nmi,
+                ..start()
+            };
+            let late = Machine {
+                cycles: HIGHEST_CYCLES + 1,
+                ..before
+            };
+            let served =
+                lines == Lines::IRQ_LOW || lines == Lines::NMI_LOW && last_nmi == Level::High;
+            assert!(renewed(before, lines, memory_with(&[0xEA])));
+            assert_eq!(renewed(before, lines, memory_with(&[0x02])), served);
+            assert!(!renewed(late, lines, memory_with(&[0xEA])));
+            assert!(!renewed(before, lines, vec![0xEA; MEMORY_SIZE - 1]));
+        }
+    }
+}
+
 /// 0200 CLI, 0201 NOP, 0202 JMP $0201; NMI leads to 0300 and IRQ to 0400, to an INC of 10 or 11 and RTI each.
 fn memory_with_handlers() -> Vec<u8> {
     let mut memory = memory_with(&[0x58, 0xEA, 0x4C, 0x01, 0x02]);
