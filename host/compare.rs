@@ -4,6 +4,7 @@ mod pair;
 mod parts;
 mod served;
 mod shrink;
+mod spent;
 mod states;
 
 use std::io::IsTerminal;
@@ -17,16 +18,19 @@ use oracle::rules;
 use oracle::options::Options;
 use pair::{Fault, Firsts, Pair, Plant};
 use served::Calls;
+use spent::Spent;
 
 const USAGE: &str = "usage: host/compare [--native] [--seed N] [--steps N] \
-                     [--plant | --plant-first | --plant-call | --plant-break | --plant-level] [ARCHIVE]";
+                     [--plant | --plant-first | --plant-call | --plant-break | --plant-level | --plant-limit] \
+                     [ARCHIVE]";
 /// The marks for the planted faults.
-const PLANTS: [(&str, Plant); 5] = [
+const PLANTS: [(&str, Plant); 6] = [
     ("--plant", Plant::Store),
     ("--plant-first", Plant::First),
     ("--plant-call", Plant::Call),
     ("--plant-break", Plant::Break),
     ("--plant-level", Plant::Level),
+    ("--plant-limit", Plant::Limit),
 ];
 /// The line of progress is renewed after so many steps.
 const STRIDE: u64 = 250_000;
@@ -155,6 +159,9 @@ impl Comparison {
         })?;
         self.part_with_lines("runs, a step later", |pair, random, mut progress| {
             parts::runs_with_lines(pair, random, steps.div_ceil(20), &mut progress)
+        })?;
+        self.part_with_lines("runs by cycles", |pair, random, mut progress| {
+            spent::runs_by_cycles(pair, random, steps.div_ceil(20_000), &mut progress)
         })
     }
 
@@ -250,6 +257,7 @@ impl Comparison {
             alike,
             cleared,
             set,
+            by_cycles: Spent { answers, over },
             ..
         } = &self.lines.calls;
         println!(
@@ -271,6 +279,11 @@ impl Comparison {
         );
         println!(
             "after {alike} instructions both served the same line, or neither did, and ended alike but for the 7 cycles"
+        );
+        let [spent, no_room, no_opcode, too_high] = answers;
+        println!(
+            "runs by cycles: {spent} answered 0, {no_room} 2, {no_opcode} 3, {too_high} 4; \
+             over the limit by 0 to 6 cycles: {over:?}"
         );
     }
 }

@@ -34,7 +34,7 @@ uint8_t mos6502_nmi(uint64_t registers);
  * low. Other bits do not matter. */
 enum { MOS6502_IDLE = 0, MOS6502_NMI_LOW = 1, MOS6502_IRQ_LOW = 2 };
 
-/* In the three calls below the numbers and the `length` bytes of memory must not overlap, and nobody else may use them
+/* In the four calls below the numbers and the `length` bytes of memory must not overlap, and nobody else may use them
  * meanwhile. */
 
 /* One step. It serves NMI where that falls, its last level being high and the present one low; otherwise IRQ where that is
@@ -69,6 +69,17 @@ uint8_t mos6502_run(uint64_t *registers, uint64_t *cycles, uint64_t *steps, uint
  * m + n gives. */
 uint8_t mos6502_long_run(uint64_t *registers, uint64_t *cycles, uint64_t *steps, uint64_t bound, uint8_t lines,
                          uint8_t *memory, size_t length);
+
+/* A run by cycles, with the same levels in all of its steps: before each step it looks whether `limit` or more cycles are
+ * spent, and is over once they are. *steps is written, with the number of steps made. It answers, the first that holds:
+ *   1  length is not 65,536
+ *   4  limit is above 1,000,000
+ *   2, 3  as a step does, for the first step that is refused; it is not counted
+ *   0  `limit` or more cycles were spent, and before the last step fewer; the program was still running
+ * At most limit + 6 cycles are spent, and none where limit is 0; at most (limit + 1) / 2 steps are made. All else is as in
+ * mos6502_run: it is that run with the number of steps that were made. */
+uint8_t mos6502_run_cycles(uint64_t *registers, uint64_t *cycles, uint64_t *steps, uint64_t limit, uint8_t lines,
+                           uint8_t *memory, size_t length);
 
 #ifdef __cplusplus
 }

@@ -35,6 +35,8 @@ pub enum Plant {
     Break,
     /// A step does not record the level of NMI.
     Level,
+    /// A run by cycles has a limit that is one too high.
+    Limit,
 }
 
 /// The steps by what their address put out first is.
@@ -51,7 +53,7 @@ pub struct Firsts {
 pub struct Pair {
     pub rust: Core,
     pub memory: Vec<u8>,
-    plant: Plant,
+    pub(crate) plant: Plant,
     /// The cases since all bytes were compared.
     pub(crate) window: Vec<Case>,
     expected: Vec<Access>,

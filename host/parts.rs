@@ -1,4 +1,4 @@
-//! The parts of the comparison: four with idle lines, and two with lines.
+//! The parts of the comparison: four with idle lines, and two with lines; spent.rs has the runs by cycles.
 
 use oracle::case::Case;
 use oracle::edges::Class;
@@ -176,7 +176,7 @@ fn stretch(
 }
 
 /// A fault of a run, which no single step shows.
-fn fault_at(state: State, what: String) -> Fault {
+pub fn fault_at(state: State, what: String) -> Fault {
     let what = format!("a run, at {state}: {what}");
     Fault { case: None, what }
 }
@@ -213,7 +213,7 @@ pub fn same_calls(
 
 /// Runs on random memories with the state carried and lines that change now and then. The Rust looks at its lines after an
 /// instruction, and the port sees the same levels at its next step. Every stretch of the port's steps with the same levels is
-/// also made by one run or long run of it.
+/// also made by one run, long run or run by cycles of it.
 pub fn runs_with_lines(
     pair: &mut Pair,
     random: &mut Random,
@@ -279,6 +279,7 @@ struct Held {
     /// Those of the next step.
     lines: Lines,
     steps: u64,
+    /// The number of the next run among `RUNS`; one more is a run by cycles.
     runs: usize,
 }
 
@@ -321,11 +322,16 @@ impl Held {
     /// next stretch begins here.
     fn end(&mut self, state: State, refused: bool) -> Result<(), Fault> {
         let (start, lines) = self.start;
-        let run = RUNS[self.runs % RUNS.len()];
-        self.runs += 1;
         let (machine, levels) = given(&start, lines);
-        let bound = self.steps + u64::from(refused);
-        let answer = run(machine, bound, levels, &mut self.memory);
+        let more = u64::from(refused);
+        let answer = match RUNS.get(self.runs) {
+            Some(run) => run(machine, self.steps + more, levels, &mut self.memory),
+            None => {
+                let spent = state.cycles - start.cycles;
+                saxundeer::run_cycles(machine, spent + more, levels, &mut self.memory)
+            }
+        };
+        self.runs = (self.runs + 1) % (RUNS.len() + 1);
         let (machine, _) = given(&state, self.lines);
         let progress = Progress {
             steps: self.steps,

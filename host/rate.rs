@@ -73,13 +73,8 @@ fn time_all(image: &[u8]) -> Result<[Duration; COLUMNS], String> {
     let rust = time_rust(image, STEPS)?;
     let fat = time_fat(image)?;
     same(&rust, &fat)?;
-    let mut times = [
-        rust.0,
-        fat.0,
-        Duration::ZERO,
-        Duration::ZERO,
-        Duration::ZERO,
-    ];
+    let mut times = [Duration::ZERO; COLUMNS];
+    [times[0], times[1]] = [rust.0, fat.0];
     for (time, (_, way)) in times.iter_mut().skip(2).zip(ways::ALL) {
         let port = time_port(way, image, STEPS)?;
         same(&rust, &port)?;

@@ -8,6 +8,7 @@ use oracle::state::{Names, RUST_AND_PORT, State, difference};
 use saxundeer::{HIGHEST_CYCLES, Machine, StepAnswer};
 
 use crate::pair::{Fault, Pair, given, judge_level};
+use crate::spent::Spent;
 use crate::states::state_of;
 
 const RULES_AND_PORT: Names = ["the rules", "the port"];
@@ -33,6 +34,8 @@ pub struct Calls {
     pub cleared: [u64; 256],
     /// Instructions that set I while IRQ was low, so that the Rust still served it, by opcode.
     pub set: [u64; 256],
+    /// The runs by cycles.
+    pub by_cycles: Spent,
 }
 
 impl Default for Calls {
@@ -48,6 +51,7 @@ impl Default for Calls {
             alike: 0,
             cleared: [0; 256],
             set: [0; 256],
+            by_cycles: Spent::default(),
         }
     }
 }

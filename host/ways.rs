@@ -24,6 +24,15 @@ unsafe extern "C" {
         memory: *mut u8,
         length: usize,
     ) -> u8;
+    fn mos6502_run_cycles(
+        registers: *mut u64,
+        cycles: *mut u64,
+        steps: *mut u64,
+        limit: u64,
+        lines: u8,
+        memory: *mut u8,
+        length: usize,
+    ) -> u8;
 }
 
 /// Both lines high, as the C functions have it.
@@ -33,7 +42,12 @@ const IDLE: u8 = 0;
 pub type Way = fn(&mut [u8], u64) -> Result<State, String>;
 
 /// In the order of the columns, with their heads.
-pub const ALL: [(&str, Way); 3] = [("run", by_run), ("step", by_step), ("crate", by_crate)];
+pub const ALL: [(&str, Way); 4] = [
+    ("run", by_run),
+    ("cycles", by_cycles),
+    ("step", by_step),
+    ("crate", by_crate),
+];
 
 /// The state after the numbers that the C functions take.
 fn state_of_numbers(registers: u64, cycles: u64) -> State {
@@ -84,6 +98,35 @@ pub fn by_run(memory: &mut [u8], steps: u64) -> Result<State, String> {
         };
         if answer != 0 {
             return Err(format!("mos6502_run answered {answer} after {made} steps"));
+        }
+        made += part;
+    }
+    Ok(state_of_numbers(registers, cycles))
+}
+
+/// By `mos6502_run_cycles`, a million cycles a call. So many steps are to be made and no more, and a call makes at most half of
+/// its limit and 1: so the last calls have smaller limits, some twenty of them.
+pub fn by_cycles(memory: &mut [u8], steps: u64) -> Result<State, String> {
+    let (mut registers, mut cycles, mut made) = (start(), loops::START.cycles, 0);
+    while made < steps {
+        let limit = HIGHEST_BOUND.min(2 * (steps - made) - 1);
+        let mut part = 0;
+        // Sound: as above.
+        let answer = unsafe {
+            mos6502_run_cycles(
+                &mut registers,
+                &mut cycles,
+                &mut part,
+                limit,
+                IDLE,
+                memory.as_mut_ptr(),
+                memory.len(),
+            )
+        };
+        if answer != 0 {
+            return Err(format!(
+                "mos6502_run_cycles answered {answer} after {made} steps"
+            ));
         }
         made += part;
     }

@@ -1,6 +1,6 @@
 //! The C functions: mos6502.h says what each promises.
 
-/// A run and a long run take the same.
+/// The three kinds of run take the same.
 pub(crate) type RunFunction =
     unsafe extern "C" fn(*mut u64, *mut u64, *mut u64, u64, u8, *mut u8, usize) -> u8;
 
@@ -27,6 +27,15 @@ unsafe extern "C" {
         cycles: *mut u64,
         steps: *mut u64,
         bound: u64,
+        lines: u8,
+        memory: *mut u8,
+        length: usize,
+    ) -> u8;
+    pub(crate) fn mos6502_run_cycles(
+        registers: *mut u64,
+        cycles: *mut u64,
+        steps: *mut u64,
+        limit: u64,
         lines: u8,
         memory: *mut u8,
         length: usize,

@@ -62,7 +62,7 @@ pub use run_to::{Ending, run_to};
 pub const MEMORY_SIZE: usize = 65_536;
 /// The highest count of cycles from which there is a step: no step takes more than 7.
 pub const HIGHEST_CYCLES: u64 = u64::MAX - 7;
-/// The highest bound of `run`.
+/// The highest bound of `run`, and the highest limit of `run_cycles`.
 pub const HIGHEST_BOUND: u64 = 1_000_000;
 
 /// The registers, the count of cycles, and the last level of NMI.
@@ -167,16 +167,17 @@ pub struct Progress {
     pub machine: Machine,
 }
 
-/// What a run answers: all its steps were made, or why it stopped. A refused step is not counted.
-#[must_use = "a run may have stopped early: only Made has made all its steps"]
+/// What a run answers: it came as far as was asked for, or why it stopped. A refused step is not counted.
+#[must_use = "a run may have stopped early: only Made came as far as was asked for"]
 #[derive(Clone, Copy, Debug, PartialEq, Eq)]
 pub enum RunAnswer {
-    /// All the steps that were asked for: the program was still running.
+    /// All the steps that were asked for were made or, in a run by cycles, the cycles of the limit or more were spent: the
+    /// program was still running.
     Made(Progress),
     MemoryNotFull(Progress),
     NoCycleRoom(Progress),
     NotAnOpcode(Progress),
-    /// The bound of a `run` is above `HIGHEST_BOUND`.
+    /// The bound of a `run` or the limit of a `run_cycles` is above `HIGHEST_BOUND`.
     BoundTooHigh(Progress),
 }
 
@@ -220,11 +221,18 @@ pub fn long_run(machine: Machine, bound: u64, lines: Lines, memory: &mut [u8]) -
     run_by(functions::mos6502_long_run, machine, bound, lines, memory)
 }
 
-/// A run by one of the two functions.
+/// A run by cycles: before each step it looks whether `limit` or more are spent, and is over once they are. It spends at most
+/// `limit` + 6, none where `limit` is 0, and makes at most (`limit` + 1) / 2 steps; `BoundTooHigh` where `limit` is above
+/// `HIGHEST_BOUND`. All else is as in `run`: it is that run with the number of steps that were made.
+pub fn run_cycles(machine: Machine, limit: u64, lines: Lines, memory: &mut [u8]) -> RunAnswer {
+    run_by(functions::mos6502_run_cycles, machine, limit, lines, memory)
+}
+
+/// A run by one of the three functions.
 fn run_by(
     function: RunFunction,
     machine: Machine,
-    bound: u64,
+    most: u64,
     lines: Lines,
     memory: &mut [u8],
 ) -> RunAnswer {
@@ -237,7 +245,7 @@ fn run_by(
             &mut number,
             &mut cycles,
             &mut steps,
-            bound,
+            most,
             lines.byte(),
             memory.as_mut_ptr(),
             memory.len(),

@@ -269,7 +269,7 @@ fn another_length_is_refused() {
             machine: start(),
         };
         // The length is looked at before the bound.
-        for run in [run, long_run] {
+        for run in [run, long_run, run_cycles] {
             let answer = run(start(), HIGHEST_BOUND + 1, Lines::IDLE, &mut memory);
             assert_eq!(answer, RunAnswer::MemoryNotFull(nothing));
         }
@@ -355,8 +355,12 @@ fn a_bound_above_a_million_is_refused() {
         steps: 0,
         machine: start(),
     };
-    let answer = run(start(), HIGHEST_BOUND + 1, Lines::IDLE, &mut memory);
-    assert_eq!(answer, RunAnswer::BoundTooHigh(nothing));
+    for run in [run, run_cycles] {
+        for bound in [HIGHEST_BOUND + 1, u64::MAX] {
+            let answer = run(start(), bound, Lines::IDLE, &mut memory);
+            assert_eq!(answer, RunAnswer::BoundTooHigh(nothing));
+        }
+    }
 }
 
 /// Three counters, each of 256 rounds: DEX, BNE -3, DEY, BNE -6, DEC 10, BNE -10, and at 020A a byte that is no opcode.
@@ -416,6 +420,84 @@ fn a_run_stops_where_the_cycles_end() {
         // Steps start at -3 and at 0 from the highest count; the third would start at +3.
         assert_eq!(progress.steps, 2);
         assert_eq!(progress.machine.cycles, HIGHEST_CYCLES + 3);
+    }
+}
+
+/// The steps and the cycles of a run by cycles that came as far as was asked for.
+fn spent(machine: Machine, limit: u64, memory: &mut [u8]) -> (u64, u64) {
+    match run_cycles(machine, limit, Lines::IDLE, memory) {
+        RunAnswer::Made(progress) => (progress.steps, progress.machine.cycles - machine.cycles),
+        other => panic!("{limit} cycles: {other:?}"),
+    }
+}
+
+#[test]
+fn a_run_by_cycles_is_over_once_they_are_spent() {
+    // BRK for ever: 7 cycles each, so that up to 6 more than the limit are spent.
+    for limit in 0..=100 {
+        let steps = u64::div_ceil(limit, 7);
+        let brk = &mut memory_with(&[]);
+        assert_eq!(spent(start(), limit, brk), (steps, 7 * steps));
+        let late = Machine {
+            cycles: u64::MAX - 7 * 100,
+            ..start()
+        };
+        assert_eq!(spent(late, limit, brk), (steps, 7 * steps));
+    }
+    // NOP throughout: 2 cycles each, half of the limit and 1 in steps.
+    for limit in [0, 1, 2, 3, 999_999, HIGHEST_BOUND] {
+        let steps = u64::div_ceil(limit, 2);
+        let nop = &mut vec![0xEA; MEMORY_SIZE];
+        assert_eq!(spent(start(), limit, nop), (steps, 2 * steps));
+    }
+}
+
+#[test]
+fn a_run_by_cycles_says_why_it_stopped() {
+    // LDA #$05, and a byte that is no opcode: the limit is looked at first.
+    let mut memory = memory_with(&[0xA9, 0x05, 0x02]);
+    for limit in [1, 2] {
+        assert_eq!(spent(start(), limit, &mut memory), (1, 2));
+    }
+    let answer = run_cycles(start(), 3, Lines::IDLE, &mut memory);
+    let RunAnswer::NotAnOpcode(progress) = answer else {
+        panic!("the run did not stop at 02");
+    };
+    assert_eq!(progress.steps, 1);
+    assert_eq!(progress.machine.registers.program_counter, 0x0202);
+    // JMP 0200 for ever. Steps start at -3 and at 0 from the highest count; the third would start at +3.
+    let mut memory = memory_with(&[0x4C, 0x00, 0x02]);
+    let mut machine = start();
+    machine.cycles = HIGHEST_CYCLES - 3;
+    for limit in 0..=6 {
+        let steps = u64::div_ceil(limit, 3);
+        assert_eq!(spent(machine, limit, &mut memory), (steps, 3 * steps));
+    }
+    for limit in [7, 10, 11, HIGHEST_BOUND] {
+        let answer = run_cycles(machine, limit, Lines::IDLE, &mut memory);
+        let RunAnswer::NoCycleRoom(progress) = answer else {
+            panic!("the run did not stop for want of cycles");
+        };
+        assert_eq!(progress.steps, 2);
+        assert_eq!(progress.machine.cycles, HIGHEST_CYCLES + 3);
+    }
+    // No limit, no step: not even where there is no room for one.
+    machine.cycles = u64::MAX;
+    assert_eq!(spent(machine, 0, &mut memory), (0, 0));
+}
+
+#[test]
+fn a_run_by_cycles_is_the_run_of_its_steps() {
+    for lines in [Lines::IDLE, Lines::IRQ_LOW, Lines::NMI_LOW, BOTH_LOW] {
+        for limit in (0..200).chain([65_535, HIGHEST_BOUND]) {
+            let [mut memory, mut other] = [memory_with_handlers(), memory_with_handlers()];
+            let RunAnswer::Made(progress) = run_cycles(start(), limit, lines, &mut memory) else {
+                panic!("the run stopped");
+            };
+            let answer = run(start(), progress.steps, lines, &mut other);
+            assert_eq!(answer, RunAnswer::Made(progress));
+            assert_eq!(memory, other);
+        }
     }
 }
 
@@ -586,9 +668,9 @@ fn a_step_that_is_made_records_the_level_of_nmi_and_a_refused_one_keeps_it() {
             };
             let answer = single_step(late, lines, &mut memory_with(&[0xEA]));
             assert_eq!(answer, StepAnswer::NoCycleRoom(late));
-            // A run of no steps records nothing.
+            // A run of no steps records nothing, nor does one of no cycles.
             let nothing = Progress { steps: 0, machine };
-            for run in [run, long_run] {
+            for run in [run, long_run, run_cycles] {
                 let answer = run(machine, 0, lines, &mut memory_with(&[0xEA]));
                 assert_eq!(answer, RunAnswer::Made(nothing));
             }
