@@ -24,7 +24,7 @@ pub struct Spent {
 }
 
 /// With every combination of the levels and the last one of NMI, and random states besides: the small limits and a random one,
-/// `rounds` times, with one byte in 64 no opcode, and then the large ones on opcodes alone. Every second count of a small one
+/// `rounds` times, where about one byte in 40 is no opcode, and then the large ones on opcodes alone. Every second count of a small one
 /// lies about the last that has room for a step.
 pub fn runs_by_cycles(
     pair: &mut Pair,
@@ -33,7 +33,7 @@ pub fn runs_by_cycles(
     progress: &mut impl FnMut(u64),
 ) -> Result<(), Fault> {
     for lines in Lines::all() {
-        let mut memory = laid(pair, random, 64);
+        let mut memory = laid(pair, random, Some(16));
         for _ in 0..rounds {
             let any = random.below(1_000) as u64;
             for limit in SMALL.into_iter().chain([any]) {
@@ -45,7 +45,7 @@ pub fn runs_by_cycles(
                 run_by_cycles(pair, &mut memory, start, lines, limit)?;
             }
         }
-        let mut memory = laid(pair, random, 65_536);
+        let mut memory = laid(pair, random, None);
         for limit in LARGE {
             run_by_cycles(pair, &mut memory, random.state(), lines, limit)?;
             progress(pair.steps);
@@ -54,12 +54,13 @@ pub fn runs_by_cycles(
     Ok(())
 }
 
-/// Opcodes throughout, but about one byte in so many: in both cores, and on a memory for the runs.
-fn laid(pair: &mut Pair, random: &mut Random, one_in: usize) -> Vec<u8> {
+/// Random opcodes, and of the bytes that are none one in so many or none: in both cores, and on a memory for the runs.
+fn laid(pair: &mut Pair, random: &mut Random, one_in: Option<usize>) -> Vec<u8> {
     let opcodes: Vec<u8> = rules::all().map(|entry| entry.opcode).collect();
     let mut memory = random.memory();
     for (address, byte) in (0..=0xFFFF).zip(&mut memory) {
-        if rules::entry(*byte).is_none() && random.below(one_in) > 0 {
+        let stays = one_in.is_some_and(|number| random.below(number) == 0);
+        if rules::entry(*byte).is_none() && !stays {
             *byte = opcodes[random.below(opcodes.len())];
         }
         pair.put(address, *byte);
