@@ -224,6 +224,23 @@ pub fn long_run(machine: Machine, bound: u64, lines: Lines, memory: &mut [u8]) -
 /// A run by cycles: before each step it looks whether `limit` or more are spent, and is over once they are. It spends at most
 /// `limit` + 6, none where `limit` is 0, and makes at most (`limit` + 1) / 2 steps; `BoundTooHigh` where `limit` is above
 /// `HIGHEST_BOUND`. All else is as in `run`: it is that run with the number of steps that were made.
+///
+/// ```
+/// use saxundeer::{Lines, MEMORY_SIZE, Machine, RunAnswer, run_cycles};
+///
+/// const REFRESH: u64 = 20_000;
+/// let mut memory = vec![0; MEMORY_SIZE]; // BRK for ever, 7 cycles each
+/// let mut machine = Machine::new();
+/// for refresh in 1..=50 {
+///     // What the last refresh spent too much is taken from this one, so that they do not drift.
+///     let limit = refresh * REFRESH - machine.cycles;
+///     match run_cycles(machine, limit, Lines::IDLE, &mut memory) {
+///         RunAnswer::Made(progress) => machine = progress.machine,
+///         other => panic!("it stopped: {other:?}"),
+///     }
+/// }
+/// assert!((50 * REFRESH..=50 * REFRESH + 6).contains(&machine.cycles));
+/// ```
 pub fn run_cycles(machine: Machine, limit: u64, lines: Lines, memory: &mut [u8]) -> RunAnswer {
     run_by(functions::mos6502_run_cycles, machine, limit, lines, memory)
 }
