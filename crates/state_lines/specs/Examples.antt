@@ -3,8 +3,10 @@ use Prim.Native.Nat.{ℕ}
 use mathlib.Core.Path.{_≡_, refl}
 use mathlib.Core.Bool.{true}
 use mathlib.Core.List.{List, [], _∷_, map}
+use Rattle.registers.specs.State.{registersOf}
 use Rattle.registers.specs.StatusByte.{statusByte, pulledStatus}
 use Rattle.manual.specs.declared.Machine.{Machine}
+use Rattle.manual.specs.Outcomes.{machineOf}
 use Rattle.reading.specs.Numbers.{digitValue, digitAt, byteAt, wordAt, countFrom, countAt, markAt}
 use Rattle.laws.specs.Characters.{characters}
 use Rattle.state_lines.specs.declared.Line.the-variants.{State, Malformed}
@@ -12,11 +14,7 @@ use Rattle.state_lines.specs.Fields.{cyclesOf, fieldAt, fieldsOf, stateO
 
 -- cycles, counter, A, X, Y, S and the status byte
 state : ℕ → ℕ → ℕ → ℕ → ℕ → ℕ → ℕ → Machine
-state cycles counter a x y s p = record {
-  registers = record { accumulator = a; x = x; y = y; stack = record { 0 = s }; counter = counter; status = pulledStatus p };
-  cycles = cycles;
-  nmi = true;
-}
+state cycles counter a x y s p = machineOf (registersOf a x y s counter (pulledStatus p)) cycles true
 
 -- document 01's example of a report, and the highest count; what follows a line does not matter
 good-lines : map lineOf (characters "2 0202 05 00 00 FF 34\n" ∷ characters "18446744073709551615 FFFF 00 01 02 7D FF\nx" ∷ characters "0 0000 00 00 00 00 30\n\n" ∷ [])

@@ -4,6 +4,7 @@ use Prim.Native.Nat.{ℕ, _+_}
 use mathlib.Core.Bool.{true, cond}
 use mathlib.Core.List.{List}
 use lib.Dec.{eqb}
+use Rattle.registers.specs.State.{registersOf}
 use Rattle.registers.specs.StatusByte.{pushedByte, pulledStatus}
 use Rattle.manual.specs.declared.Machine.{Machine}
 use Rattle.manual.specs.Outcomes.{machineOf}
@@ -46,17 +47,7 @@ fieldsOf s =
 -- the registers and the cycles, with the last level of NMI high
 unfoldable pub stateOf : Fields → Machine
 stateOf f =
-    machineOf
-    (record {
-      accumulator = f .accumulator;
-      x = f .x;
-      y = f .y;
-      stack = record { 0 = f .stack };
-      counter = f .counter;
-      status = pulledStatus (f .status);
-    })
-    (f .cycles)
-    true
+    machineOf (registersOf (f .accumulator) (f .x) (f .y) (f .stack) (f .counter) (pulledStatus (f .status))) (f .cycles) true
 
 unfoldable pub spelledBy : Fields → Line
 spelledBy f =

@@ -9,7 +9,6 @@ ghost use lib.ListN.{drop};
 ghost use Rattle.state_lines.specs.Fields.{cyclesOf, fieldAt, fieldsOf, stateOf, spelledBy, lineOf, lineFrom};
 use manual::Machine;
 use registers::Registers;
-use registers::StackPointer;
 use registers::Status;
 use reading::Byte;
 use reading::Count;
@@ -20,15 +19,15 @@ use reading::read_mark;
 use reading::read_word;
 
 // The seven numbers of a line, and where the text goes on.
-pub struct Fields {
-    pub cycles: u64,
-    pub counter: u16,
-    pub accumulator: u8,
-    pub x: u8,
-    pub y: u8,
-    pub stack: u8,
-    pub status: u8,
-    pub next: usize,
+struct Fields {
+    cycles: u64,
+    counter: u16,
+    accumulator: u8,
+    x: u8,
+    y: u8,
+    stack: u8,
+    status: u8,
+    next: usize,
 }
 
 // The state that a line spells, and where the text goes on.
@@ -98,16 +97,14 @@ fn read_fields(text: &[u8]) -> Fields
 fn state_of(fields: Fields) -> Machine
     ensures { λ r. ⌜ r ≡ stateOf fields ⌝ }
 {
-    let stack = StackPointer(fields.stack);
-    let status = Status::pulled(fields.status);
-    let registers = Registers {
-        accumulator: fields.accumulator,
-        x: fields.x,
-        y: fields.y,
-        stack: stack,
-        counter: fields.counter,
-        status: status,
-    };
+    let registers = Registers::new(
+        fields.accumulator,
+        fields.x,
+        fields.y,
+        fields.stack,
+        fields.counter,
+        Status::pulled(fields.status),
+    );
     Machine::new(registers, fields.cycles, true)
 }
 

@@ -7,7 +7,10 @@ use Rattle.state_lines.proofs.state_of.Tie as tie
 
 returns : tie.Need-returns
 unfolding stateOf
-returns c = c .new .ensures ∙ rw (c .before .pulled .ensures)
+returns c =
+    let c₁ = c .before in
+    let c₂ = c₁ .before in
+    c .new2 .ensures ∙ rw (c₁ .new .ensures, c₂ .pulled .ensures)
 
 pub state-of-spec : {M : Type 1} → statement M
-state-of-spec = tie.close (tie.spec (search needs) (search needs) returns)
+state-of-spec = tie.close (tie.spec (search needs) (search needs) (search needs) returns)

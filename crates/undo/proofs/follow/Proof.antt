@@ -1,0 +1,43 @@
+-- What is put back is what stood at the places that cover the step.
+use mathlib.Core.Path.{ap, sym, _∙_}
+use denote.Ref.{now}
+use Rattle.undo.specs.Laws.{follow-refused, follow-made, follow-undone}
+use Rattle.undo.specs.Restoring.{step-undone}
+use borrow.Author.Needs.{needs}
+use Rattle.undo.proofs.follow.Statement.{statement}
+use Rattle.undo.proofs.follow.Tie as tie
+
+returns : tie.Need-returns
+returns c = follow-refused _ _ _ (c .if1 .taken)
+
+returns-2 : tie.Need-returns-2
+returns-2 c =
+    let c₄ = c .before .before .before .before in
+    let step = rw (c₄ .before .before .idle .ensures) at (c₄ .single-step .ensures) in
+    follow-made _ _ _ step (sym (c .before .leads-to .ensures) ∙ c .if2 .taken)
+
+returns-3 : tie.Need-returns-3
+returns-3 c =
+    let c₂ = c .before .before in
+    let c₄ = c₂ .before .before in
+    let c₈ = c₄ .before .before .before .before in
+    let c₁₁ = c₈ .before .before .before in
+    let start = c₁₁ .before .before .before .before in
+    let step = rw (c₈ .before .before .idle .ensures) at (c₈ .single-step .ensures) in
+    follow-undone _ _ _ step (sym (c₄ .before .leads-to .ensures) ∙ c₄ .if2 .left)
+    (c₂ .put-back .ensures ∙ rw (c₁₁ .keep .ensures) (step-undone _ (start .args .machine) (now (start .args .memory)) step))
+
+pub follow-spec : {M : Type 1} → statement M
+follow-spec =
+    tie.close
+    (tie.spec
+    returns
+    (search needs)
+    (search needs)
+    (search needs)
+    (search needs)
+    (search needs)
+    returns-2
+    (search needs)
+    (search needs)
+    returns-3)

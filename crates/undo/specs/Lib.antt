@@ -1,0 +1,5 @@
+pub mod Following
+pub mod Covering
+pub mod Restoring
+pub mod Laws
+pub mod Theorems
