@@ -1,2 +1,5 @@
 pub mod Checking
 pub mod Turns
+pub mod Logs
+pub mod Accepting
+pub mod Theorems
