@@ -3,3 +3,4 @@ pub mod Turns
 pub mod Logs
 pub mod Accepting
 pub mod Theorems
+pub mod Honest

@@ -18,9 +18,9 @@ use Rattle.checking.specs.declared.Last.the-variants.{Start, After}
 use Rattle.checking.specs.declared.Part.{Part}
 use Rattle.checking.specs.declared.Checked.{Checked}
 use Rattle.checking.specs.Checking.{partOf, checkedOf, later, closed, closing, checkedTrace}
-use Rattle.checking.specs.Turns.{short-image, short-copy, both-full}
+use Rattle.checking.specs.Turns.{turn-end, short-image, short-copy, both-full}
 use Rattle.checking.specs.Logs.{logText, Follow, Log, NoLine, Accepted, PartVerdict, all, malformed, astray, Verdict, not-full, accepted, bad-line, bad-state}
-use Rattle.checking.specs.Accepting.{part-only, part-verdict}
+use Rattle.checking.specs.Accepting.{over, part-only, part-verdict}
 
 -- there is no line in an empty text
 no-text : NoLine []
@@ -68,12 +68,11 @@ module _ (image text copy : List ℕ) where
     by-lines {n} e = by-part e ∙ rw (ne-eqb (suc n) 0 (λ z. omega arith))
 
     -- A log is accepted, and the copy is left as its last line leaves it.
-    pub log-accepted : length text ≤ nowhere → (m′ : List ℕ) → Log image text m′ → checkedTrace image text copy ≡ (checkedOf 0 0, m′)
-    log-accepted fits m′ g =
+    pub log-accepted : (m′ : List ℕ) → Log image text m′ → checkedTrace image text copy ≡ (checkedOf 0 0, m′)
+    log-accepted m′ g =
         let n = length (g .others) in
         by-lines
-        (sym (part-only 0 Start image text (partOf 0 (suc n) (g .last), m′) fits
-        (all (g .first ∷ g .others) (g .last) m′ (lines-of image text m′ g) (sym (counted 0 (suc n) (g .last) m′)))))
+        (over 0 Start image text (lines-of image text m′ g) ∙ turn-end [] 0 (0 + suc n) (g .last) m′ (omega arith) ∙ counted 0 (suc n) (g .last) m′)
 
     of-part : {o : Part × List ℕ} → PartVerdict 0 Start image text o → later 0 0 Start image text ≡ o → Verdict image text copy (checkedTrace image text copy)
     of-part (all [] last m′ a q) e =
@@ -100,7 +99,7 @@ module _ (image text copy : List ℕ) where
   -- Nothing else is answered.
   pub verdict-only : (o : Checked × List ℕ) → length text ≤ nowhere → Verdict image text copy o → o ≡ checkedTrace image text copy
   verdict-only o fits (not-full never g) = g ∙ sym (not-full-only never)
-  verdict-only o fits (accepted f h m′ log g) = g ∙ sym (log-accepted f h fits m′ log)
+  verdict-only o fits (accepted f h m′ log g) = g ∙ sym (log-accepted f h m′ log)
   verdict-only o fits (bad-line f h l last m′ [] a (inl some) never g) = absurd (omega arith)
   verdict-only o fits (bad-line f h [] last m′ [] a (inr e) never g) =
       g
@@ -134,7 +133,7 @@ module _ (image text copy : List ℕ) where
     pub accepted-exactly : (checkedTrace image text copy .0 .answer ≡ 0) ↔ ((m′ : List ℕ) × Log image text m′)
     accepted-exactly = (
       (λ z. from-verdict (checkedTrace image text copy) (verdict-of fits) z),
-      (λ g. ap (λ (o : Checked × List ℕ). o .0 .answer) (log-accepted full full-copy fits (g .0) (g .1))),
+      (λ g. ap (λ (o : Checked × List ℕ). o .0 .answer) (log-accepted full full-copy (g .0) (g .1))),
     )
 
 -- The promise admits one result only, and that of a part too.
