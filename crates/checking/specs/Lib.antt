@@ -4,3 +4,4 @@ pub mod Logs
 pub mod Accepting
 pub mod Theorems
 pub mod Honest
+pub mod Parts

@@ -25,7 +25,7 @@ unfolding digit
 digit-code d h = agree digit (λ k. 48 + k) 10 refl d h
 
 -- the text consists of decimal digits
-abbrev Decimals : List ℕ → Type 0
+abbrev pub Decimals : List ℕ → Type 0
 Decimals [] = Unit
 Decimals (c ∷ t) = ((d : ℕ) × (d < 10) × (c ≡ digit d)) × Decimals t
 
@@ -38,7 +38,7 @@ decimals-step n true e h = rw (decimal-one n (ltb-true n 10 e)) ((n, ltb-true n 
 decimals-step n false e h =
     rw (decimal-more n (ltb-false n 10 e)) (decimals-last (decimal (n / 10)) (n % 10) (h (ltb-false n 10 e)) (omega arith))
 
-decimals-below : (k n : ℕ) → n < k → Decimals (decimal n)
+pub decimals-below : (k n : ℕ) → n < k → Decimals (decimal n)
 decimals-below zero n h = absurd (omega arith)
 decimals-below (suc k) n h = decimals-step n (ltb n 10) refl (λ large. decimals-below k (n / 10) (omega arith))
 
