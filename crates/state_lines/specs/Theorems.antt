@@ -179,10 +179,13 @@ line-fields s next =
     append-assoc (decimal (s .cycles) ++ spaced (hex4 (s .registers .counter))) (registerFields (s .registers)) (characters "\n")
     ∙ append-assoc (decimal (s .cycles)) (spaced (hex4 (s .registers .counter))) (registerFields (s .registers) ++ characters "\n")
 
--- a line has at most 41 characters
 pub line-length : (s : Machine) → length (lineText s) ≡ length (decimal (s .cycles)) + 21
 unfolding fieldsFor
 line-length s = ap length (line-fields s 0) ∙ length-append (decimal (s .cycles)) (laterFields (fieldsFor s 0))
+
+-- a line has at most 41 characters
+pub line-short : (s : Machine) → s .cycles < 2 ^ 64 → length (lineText s) ≤ 41
+line-short s h = omega (arith, line-length s, decimal-length 19 (s .cycles) (omega arith))
 
 -- fields with the status of PHP are those of their machine
 again : (f : Fields) → pushedByte (pulledStatus (f .status)) ≡ f .status → fieldsFor (stateOf f) (f .next) ≡ f
@@ -215,7 +218,7 @@ small-for s next h = record {
 pub written-read : (s : Machine) (u : List ℕ) → Spellable s → lineOf (lineText s ++ u) ≡ State (record { machine = s; next = length (lineText s) })
 unfolding lineOf fieldsFor
 written-read s u h =
-    let few = decimal-length 19 (s .cycles) (omega (arith, h .cycles)) in
+    let few = line-short s (h .cycles) in
     let stands : Stands (lineText s ++ u) 0 (lineText s) (length (lineText s)) = record {
       ends = omega arith;
       inside = omega (arith, length-append (lineText s) u);
@@ -224,7 +227,7 @@ written-read s u h =
     ap spelledBy
     (fields-there (lineText s ++ u) (fieldsFor s (length (lineText s))) (small-for s (length (lineText s)) h)
     (subst (λ (t : List ℕ). Stands (lineText s ++ u) 0 t (length (lineText s))) (line-fields s (length (lineText s))) stands))
-    ∙ spelled-there s (length (lineText s)) (h .nmi) (λ z. omega (arith, line-length s))
+    ∙ spelled-there s (length (lineText s)) (h .nmi) (λ z. omega (arith, few))
 
 -- What was read was written.
 pub record Written (s : List ℕ) (q : Spelled) : Type 0 where

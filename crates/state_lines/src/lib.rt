@@ -4,12 +4,13 @@
 //
 // The cycles are decimal without leading zeros, the others capital hexadecimal, the status as PHP pushes it; one space
 // stands between two fields. A line that is spelled in any other way is malformed.
+ghost use Prim.Native.Nat.{_+_, _≤_};
 ghost use mathlib.Core.Path.{_≡_};
 ghost use lib.ListN.{drop};
+ghost use Rattle.text.specs.Written.{Wrote};
+ghost use Rattle.state_lines.specs.Lines.{lineText};
 ghost use Rattle.state_lines.specs.Fields.{cyclesOf, fieldAt, fieldsOf, stateOf, spelledBy, lineOf, lineFrom};
 use manual::Machine;
-use registers::Registers;
-use registers::Status;
 use reading::Byte;
 use reading::Count;
 use reading::NOWHERE;
@@ -17,6 +18,10 @@ use reading::read_byte;
 use reading::read_count;
 use reading::read_mark;
 use reading::read_word;
+use registers::Registers;
+use registers::Status;
+use states::put_machine;
+use text::put_byte;
 
 // The seven numbers of a line, and where the text goes on.
 struct Fields {
@@ -141,4 +146,13 @@ pub fn read_state(text: &[u8], at: usize) -> Line
         }
         Line::Malformed => Line::Malformed,
     }
+}
+
+// Writes the line of a state. It has at most 41 characters.
+pub fn put_line(out: &mut [u8], at: usize, machine: Machine) -> usize
+    ensures { λ r. ⌜ Wrote (now (out .entry)) at (lineText machine) (now (out .exit)) r ⌝ }
+    ensures { λ r. ⌜ r ≤ at + 41 ⌝ }
+{
+    let next = put_machine(out, at, machine);
+    put_byte(out, next, b'\n')
 }

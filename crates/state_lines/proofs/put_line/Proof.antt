@@ -1,0 +1,18 @@
+-- The fields, and LF.
+use native.Mathlib.Omega.{arith}
+use Rattle.text.specs.Laws.{then}
+use Rattle.state_lines.specs.Theorems.{line-short}
+use borrow.Author.Needs.{needs}
+use Rattle.state_lines.proofs.put_line.Statement.{statement}
+use Rattle.state_lines.proofs.put_line.Tie as tie
+
+returns : tie.Need-returns
+returns c =
+    let c₂ = c .before .before in
+    let c₆ = c₂ .before .before .before .before in
+    let start = c₆ .before .before .before in
+    let wrote = then (c₆ .put-machine .ensures) (c₂ .put-byte .ensures) in
+    (wrote, omega (arith, wrote .ends, line-short (start .args .machine) (omega (arith, start))))
+
+pub put-line-spec : {M : Type 1} → statement M
+put-line-spec = tie.close (tie.spec (search needs) (search needs) (search needs) returns)

@@ -1,0 +1,21 @@
+-- What is said of a trace that was checked.
+use Prim.Native.Nat.{ℕ}
+use mathlib.Core.Bool.{cond}
+use mathlib.Core.List.{List, _++_}
+use lib.Dec.{eqb}
+use Rattle.laws.specs.Characters.{characters}
+use Rattle.text.specs.Numerals.{decimal}
+
+abbrev pub acceptedLines : ℕ → List ℕ
+acceptedLines lines = characters "accepted: every line follows, lines: " ++ decimal lines ++ characters "\n"
+
+abbrev pub badLine : ℕ → List ℕ → List ℕ
+badLine line why = characters "refused: line " ++ decimal line ++ why
+
+-- by the answer: the number is that of the lines, or of the bad one
+unfoldable pub finding : ℕ → ℕ → List ℕ
+finding answer number =
+    cond (eqb answer 0) (acceptedLines number)
+    (cond (eqb answer 1) (characters "refused: the image is not 65536 bytes long\n")
+    (cond (eqb answer 12) (badLine number (characters " is not the state after a step from the line before\n"))
+    (badLine number (characters " is malformed, cut short or missing\n"))))

@@ -1,0 +1,4 @@
+pub mod Traces
+pub mod Findings
+pub mod Laws
+pub mod Theorems
