@@ -5,3 +5,4 @@ pub mod Accepting
 pub mod Theorems
 pub mod Honest
 pub mod Parts
+pub mod Cutting

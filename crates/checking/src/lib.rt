@@ -3,6 +3,7 @@
 ghost use mathlib.Core.Path.{_≡_};
 ghost use Prim.Native.Nat.{_≤_, _<_};
 ghost use lib.ListN.{length};
+ghost use Rattle.checking.specs.Cutting.{wholeEnd};
 ghost use Rattle.checking.specs.Checking.{partOf, checkedOf, accepted, checkedPart, closed, checkedTrace};
 use manual::FULL_MEMORY;
 use manual::Machine;
@@ -92,6 +93,22 @@ pub fn check_part(start: Last, part: &[u8], copy: &mut [u8]) -> Part
         }
     }
     Part::new(0, lines, last)
+}
+
+// The place after the last LF of a text: so far it consists of whole lines.
+pub fn whole_lines(text: &[u8]) -> usize
+    ensures { λ r. ⌜ r ≡ wholeEnd (now (text .entry)) ⌝ }
+    ensures { λ r. ⌜ r ≤ length (now (text .entry)) ⌝ }
+{
+    let mut end = text.len();
+    while 0 < end {
+        let last = end - 1;
+        if text[last] == b'\n' {
+            return end;
+        }
+        end = last;
+    }
+    0
 }
 
 // What all lines of a trace show: a trace without a line is malformed too, line 1 is missing.

@@ -28,6 +28,10 @@ checkStatus lines faults = cond (eqb lines 0) 1 (cond (eqb faults 0) 0 1)
 abbrev pub rescueStatus : ℕ → ℕ → ℕ → ℕ
 rescueStatus answer dropped read = cond (eqb answer 0) (cond (eqb dropped 0) read 21) answer
 
+-- 11: a log without a line
+abbrev pub logStatus : ℕ → ℕ → ℕ → ℕ
+logStatus size answer lines = cond (eqb size 65536) (cond (eqb answer 0) (cond (eqb lines 0) 11 0) answer) 1
+
 -- of two pieces of work, the first one's unless that is 0
 abbrev pub firstOf : ℕ → ℕ → ℕ
 firstOf before now = cond (eqb before 0) now before

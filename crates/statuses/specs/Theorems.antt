@@ -10,7 +10,7 @@ use Rattle.manual.specs.declared.Ended.{Ended}
 use Rattle.manual.specs.Outcomes.{number}
 use Rattle.statuses.specs.declared.Goal.{Goal}
 use Rattle.statuses.specs.declared.Goal.the-variants.{At}
-use Rattle.statuses.specs.Statuses.{reached, endStatus, rescueStatus, firstOf}
+use Rattle.statuses.specs.Statuses.{reached, endStatus, rescueStatus, logStatus, firstOf}
 
 module _ (goal : Goal) (q : Ended) where
   by-goal : (t u : Bool) → reached goal q ≡ t → eqb (number (q .reason)) 0 ≡ u → endStatus goal q ≡ 0 → reached goal q ≡ true
@@ -43,6 +43,17 @@ only-whole answer dropped read h = by-tests (eqb answer 0) (eqb dropped 0) refl 
     by-tests true true e f g = (eqb-true answer 0 e, eqb-true dropped 0 f, rw (e, f) at g)
     by-tests true false e f g = absurd (omega (arith, rw (e, f) at g))
     by-tests false u e f g = absurd (eqb-false answer 0 e (rw e at g))
+
+-- A log's status is 0 only where the image is whole, every line was accepted, and there is one.
+pub only-accepted : (size answer lines : ℕ) → logStatus size answer lines ≡ 0 → (size ≡ 65536) × (answer ≡ 0) × (lines ≡ 0 → ⊥)
+only-accepted size answer lines h = by-tests (eqb size 65536) (eqb answer 0) (eqb lines 0) refl refl refl h
+  where
+    by-tests : (t u v : Bool) → eqb size 65536 ≡ t → eqb answer 0 ≡ u → eqb lines 0 ≡ v → logStatus size answer lines ≡ 0
+        → (size ≡ 65536) × (answer ≡ 0) × (lines ≡ 0 → ⊥)
+    by-tests true true false e f d g = (eqb-true size 65536 e, eqb-true answer 0 f, eqb-false lines 0 d)
+    by-tests true true true e f d g = absurd (omega (arith, rw (e, f, d) at g))
+    by-tests true false v e f d g = absurd (eqb-false answer 0 f (rw (e, f) at g))
+    by-tests false u v e f d g = absurd (omega (arith, rw e at g))
 
 -- what a program that works through a list hands over
 abbrev pub firstOfAll : ℕ → List ℕ → ℕ

@@ -2,7 +2,7 @@
 ghost use Prim.Native.Nat.{_+_, _≤_};
 ghost use mathlib.Core.Path.{_≡_};
 ghost use Rattle.text.specs.Written.{Wrote};
-ghost use Rattle.statuses.specs.Statuses.{reached as Statuses·reached, endStatus, checkStatus, rescueStatus, firstOf, statusLine};
+ghost use Rattle.statuses.specs.Statuses.{reached as Statuses·reached, endStatus, checkStatus, rescueStatus, logStatus, firstOf, statusLine};
 use manual::Ended;
 use manual::Reason;
 use text::put_byte;
@@ -85,6 +85,23 @@ pub fn rescue_status(answer: u8, dropped: u64, read: u8) -> u8
         return read;
     }
     SOMETHING_LOST
+}
+
+// The status of a log that was checked on an image of so many bytes: the check's answer, 1 where the image is not whole,
+// and 11 where no line is bad because there is none.
+pub fn log_status(size: usize, answer: u8, lines: u64) -> u8
+    ensures { λ r. ⌜ r ≡ logStatus size answer lines ⌝ }
+{
+    if size != 65536 {
+        return 1;
+    }
+    if answer != 0 {
+        return answer;
+    }
+    if lines == 0 {
+        return 11;
+    }
+    0
 }
 
 // The status of several pieces of work: the first that is not 0.

@@ -1,10 +1,10 @@
 -- What is said of a trace that was checked.
 use Prim.Native.Nat.{ℕ}
 use mathlib.Core.Bool.{cond}
-use mathlib.Core.List.{List, _++_}
+use mathlib.Core.List.{List, [], _∷_, _++_}
 use lib.Dec.{eqb}
 use Rattle.laws.specs.Characters.{characters}
-use Rattle.text.specs.Numerals.{decimal}
+use Rattle.text.specs.Numerals.{decimal, spaced}
 
 abbrev pub acceptedLines : ℕ → List ℕ
 acceptedLines lines = characters "accepted: every line follows, lines: " ++ decimal lines ++ characters "\n"
@@ -19,3 +19,12 @@ finding answer number =
     (cond (eqb answer 1) (characters "refused: the image is not 65536 bytes long\n")
     (cond (eqb answer 12) (badLine number (characters " is not the state after a step from the line before\n"))
     (badLine number (characters " is malformed, cut short or missing\n"))))
+
+-- the line that would have been right, which has its LF, or LF alone
+abbrev pub rightOr : List ℕ → List ℕ
+rightOr [] = characters "\n"
+rightOr (c ∷ right) = spaced (c ∷ right)
+
+-- the answer, the line that it names, and what would have been right
+abbrev pub verdictLine : ℕ → ℕ → List ℕ → List ℕ
+verdictLine answer line right = decimal answer ++ spaced (decimal line) ++ rightOr right

@@ -1,10 +1,10 @@
 -- Laws of a trace, for the proofs of the code.
-use Prim.Native.Nat.{ℕ, zero, suc, _+_, _-_, _≤_, _<_}
+use Prim.Native.Nat.{ℕ, zero, suc, _+_, _-_, _^_, _≤_, _<_}
 use mathlib.Core.Path.{_≡_, refl}
 use mathlib.Core.Bool.{true, false}
-use mathlib.Core.List.{List, [], _++_}
+use mathlib.Core.List.{List, [], _∷_, _++_}
 use native.Mathlib.Omega.{arith}
-use lib.ListN.{length}
+use lib.ListN.{length, length-append}
 use borrow.Author.Tests.{eq-eqb, ne-eqb}
 use Rattle.manual.specs.declared.Machine.{Machine}
 use Rattle.manual.specs.declared.Stepped.{Stepped}
@@ -12,8 +12,29 @@ use Rattle.manual.specs.Micro.{Gives}
 use Rattle.manual.specs.Outcomes.{isMade}
 use Rattle.manual.specs.Interrupts.{idle}
 use Rattle.manual.specs.Stepping.{fullMemory, stepFull}
+use Rattle.laws.specs.Characters.{characters}
+use Rattle.text.specs.Laws.{decimal-length}
 use Rattle.state_lines.specs.Lines.{lineText}
+use Rattle.tracing.specs.Findings.{rightOr, verdictLine}
 use Rattle.tracing.specs.Traces.{shown, fullTrace, trace}
+
+-- the end of a verdict's line
+pub no-right : (t : List ℕ) → length t ≡ 0 → rightOr t ≡ characters "\n"
+no-right [] h = refl
+no-right (c ∷ t) h = absurd (omega arith)
+
+pub some-right : (t : List ℕ) → (length t ≡ 0 → ⊥) → rightOr t ≡ characters " " ++ t
+some-right [] h = absurd (h refl)
+some-right (c ∷ t) h = refl
+
+right-length : (t : List ℕ) → length (rightOr t) ≤ 1 + length t
+right-length [] = omega arith
+right-length (c ∷ t) = omega arith
+
+pub verdict-length : (answer line : ℕ) (right : List ℕ) → answer < 256 → line < 2 ^ 64 → length (verdictLine answer line right) ≤ 25 + length right
+verdict-length answer line right a l =
+    simp length-append
+    (omega (arith, right-length right, decimal-length 2 answer (omega arith), decimal-length 19 line (omega arith)))
 
 -- the line of a step, by whether it was made
 pub shown-made : (q : Stepped) → isMade (q .reason) ≡ true → shown q ≡ lineText (q .machine)

@@ -2,8 +2,10 @@
 ghost use Prim.Native.Nat.{_+_, _≤_};
 ghost use lib.ListN.{length};
 ghost use Rattle.text.specs.Written.{Wrote};
-ghost use Rattle.tracing.specs.Findings.{acceptedLines, badLine, finding};
+ghost use Rattle.tracing.specs.Findings.{acceptedLines, badLine, finding, verdictLine};
+use text::put_byte;
 use text::put_decimal;
+use text::put_spaced_decimal;
 use text::put_text;
 
 fn put_accepted(out: &mut [u8], at: usize, lines: u64) -> usize
@@ -45,4 +47,19 @@ pub fn put_finding(out: &mut [u8], at: usize, answer: u8, number: u64) -> usize
         );
     }
     put_bad(out, at, number, b" is malformed, cut short or missing\n")
+}
+
+// Writes the line of a verdict: the answer, the line that it names, and the line that would have been right where there is
+// one.
+pub fn put_verdict(out: &mut [u8], at: usize, answer: u8, line: u64, right: &[u8]) -> usize
+    ensures { λ r. ⌜ Wrote (now (out .entry)) at (verdictLine answer line (now (right .entry))) (now (out .exit)) r ⌝ }
+    ensures { λ r. ⌜ r ≤ at + (25 + length (now (right .entry))) ⌝ }
+{
+    let after_answer = put_decimal(out, at, answer as u64);
+    let after_line = put_spaced_decimal(out, after_answer, line);
+    if right.len() == 0 {
+        return put_byte(out, after_line, b'\n');
+    }
+    let after_space = put_byte(out, after_line, b' ');
+    put_text(out, after_space, right)
 }

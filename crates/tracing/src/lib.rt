@@ -9,6 +9,7 @@ ghost use Rattle.tracing.specs.Traces.{shown, trace};
 mod finding; // finding.rt: the sentence
 use cpu::single_step;
 pub use finding::put_finding;
+pub use finding::put_verdict;
 use manual::Ended;
 use manual::FULL_MEMORY;
 use manual::Lines;

@@ -1,0 +1,52 @@
+-- Where a text can be cut so that what stands before the cut are whole lines.
+use Prim.Native.Nat.{ℕ, zero, suc, _-_, _<_, _≤_}
+use mathlib.Core.Path.{_≡_, refl, ap, sym, _∙_}
+use mathlib.Core.Logic.{inl, inr}
+use mathlib.Core.Bool.{Bool, true, false, cond}
+use mathlib.Core.List.{List, [], _∷_, _++_}
+use native.Mathlib.Nat.{not-suc-le-zero}
+use native.Mathlib.Omega.{arith}
+use lib.Dec.{eqb}
+use lib.ListN.{length, getD, take}
+use lib.Seq.{take-suc}
+use borrow.Author.Tests.{eq-eqb, ne-eqb, eqb-true}
+use Rattle.checking.specs.Parts.{Whole}
+
+-- the place after the last LF among the first n characters; 0 where there is none
+unfoldable pub endBefore : ℕ → List ℕ → ℕ
+endBefore zero s = 0
+endBefore (suc n) s = cond (eqb (getD s n 0) 10) (suc n) (endBefore n s)
+
+abbrev pub wholeEnd : List ℕ → ℕ
+wholeEnd s = endBefore (length s) s
+
+-- ---- for the loop
+
+pub end-here : (s : List ℕ) (n : ℕ) → 0 < n → getD s (n - 1) 0 ≡ 10 → endBefore n s ≡ n
+unfolding endBefore
+end-here s zero h e = absurd (not-suc-le-zero h)
+end-here s (suc n) h e = let one : suc n - 1 ≡ n = omega arith in rw (eq-eqb (getD s n 0) 10 (rw one at e))
+
+pub end-before : (s : List ℕ) (n : ℕ) → 0 < n → (getD s (n - 1) 0 ≡ 10 → ⊥) → endBefore n s ≡ endBefore (n - 1) s
+unfolding endBefore
+end-before s zero h f = absurd (not-suc-le-zero h)
+end-before s (suc n) h f = let one : suc n - 1 ≡ n = omega arith in rw (one, ne-eqb (getD s n 0) 10 (λ e. f (rw one e)))
+
+pub end-none : (s : List ℕ) (n : ℕ) → n ≤ 0 → endBefore n s ≡ 0
+unfolding endBefore
+end-none s zero h = refl
+end-none s (suc n) h = absurd (not-suc-le-zero h)
+
+-- ---- what stands before the cut are whole lines
+
+whole-before : (n : ℕ) (s : List ℕ) → n ≤ length s → Whole (take (endBefore n s) s)
+unfolding endBefore
+whole-before zero s h = inl refl
+whole-before (suc n) s h = go (eqb (getD s n 0) 10) refl (whole-before n s (omega arith))
+  where
+    go : (t : Bool) → eqb (getD s n 0) 10 ≡ t → Whole (take (endBefore n s) s) → Whole (take (cond t (suc n) (endBefore n s)) s)
+    go true e before = inr (take n s, take-suc s n 0 (omega arith) ∙ ap (λ (c : ℕ). take n s ++ c ∷ []) (eqb-true (getD s n 0) 10 e))
+    go false e before = before
+
+pub cut-whole : (s : List ℕ) → Whole (take (wholeEnd s) s)
+cut-whole s = whole-before (length s) s (omega arith)
