@@ -14,6 +14,8 @@
 // failed. Of several logs the first status that is not 0; every one that can be read is checked.
 //
 // What is accepted is promised by the crate checking, also part by part, and what the line and the sentence say by tracing.
+ghost use Prim.Native.Nat.{_≤_};
+ghost use lib.ListN.{length};
 use checking::Last;
 use console::argument_is;
 use console::hand_over;
@@ -43,12 +45,11 @@ const IMAGE: usize = 1;
 const LOG: usize = 2;
 
 // 41 is the most that a line can have (`put_step`), and 66 that line with an answer and a number before it (`put_verdict`).
-fn write_verdict(answer: u8, line: u64, right: &[u8; 41], size: usize) -> bool {
+fn write_verdict(answer: u8, line: u64, right: &[u8]) -> bool
+    requires { ⌜ length (now right) ≤ 41 ⌝ }
+{
     let mut text = [0u8; 66];
-    if 41 < size {
-        return false;
-    }
-    let end = put_verdict(&mut text, 0, answer, line, &right[..size]);
+    let end = put_verdict(&mut text, 0, answer, line, right);
     write_output(&text[..end])
 }
 
@@ -61,10 +62,10 @@ fn say_finding(index: usize, answer: u8, number: u64) {
 
 // The line that would have followed; where no step can be made, a sentence says why.
 fn show_right(index: usize, line: u64, last: Last, copy: &mut [u8]) -> bool {
-    let mut right = [0u8; 41];
     match last {
-        Last::Start => write_verdict(12, line, &right, 0),
+        Last::Start => write_verdict(12, line, b""),
         Last::After(machine) => {
+            let mut right = [0u8; 41];
             let traced = put_step(&mut right, 0, machine, copy);
             let size = traced.next;
             if size == 0 {
@@ -75,7 +76,7 @@ fn show_right(index: usize, line: u64, last: Last, copy: &mut [u8]) -> bool {
                 let length = put_sentence(&mut text, 0, Goal::Unnamed, ended, copy);
                 say_of(index, &text[..length]);
             }
-            write_verdict(12, line, &right, size)
+            write_verdict(12, line, &right[..size])
         }
     }
 }
@@ -84,10 +85,9 @@ fn show_right(index: usize, line: u64, last: Last, copy: &mut [u8]) -> bool {
 fn conclude(index: usize, found: Found, copy: &mut [u8]) -> u8 {
     let status = log_status(copy.len(), found.answer, found.lines);
     let bad = std::num::wrapping_add_u64(found.lines, 1);
-    let right = [0u8; 41];
     if status == 0 {
         say_finding(index, 0, found.lines);
-        if write_verdict(0, 0, &right, 0) {
+        if write_verdict(0, 0, b"") {
             return 0;
         }
         return FAILED;
@@ -100,13 +100,22 @@ fn conclude(index: usize, found: Found, copy: &mut [u8]) -> u8 {
         }
         return FAILED;
     }
-    if write_verdict(status, bad, &right, 0) {
+    if write_verdict(status, bad, b"") {
         return status;
     }
     FAILED
 }
 
-// Checks the log that an argument names on a copy of the image.
+// Checks a log on a copy of the image.
+fn check_on(index: usize, copy: &mut [u8]) -> u8 {
+    let found = check_log(index, copy);
+    if found.status != 0 {
+        return found.status;
+    }
+    conclude(index, found, copy)
+}
+
+// Checks the log that an argument names on the image, which is read again for each.
 fn check_argument(index: usize) -> u8 {
     let mut copy = image_buffer();
     let input = read_input(IMAGE, &mut copy);
@@ -115,18 +124,13 @@ fn check_argument(index: usize) -> u8 {
     }
     let size = input.size;
     if size != 65536 {
-        let right = [0u8; 41];
         say_finding(IMAGE, 1, 0);
-        if write_verdict(1, 0, &right, 0) {
+        if write_verdict(1, 0, b"") {
             return log_status(size, 0, 0);
         }
         return FAILED;
     }
-    let found = check_log(index, &mut copy[..size]);
-    if found.status != 0 {
-        return found.status;
-    }
-    conclude(index, found, &mut copy[..size])
+    check_on(index, &mut copy[..size])
 }
 
 fn check_by_arguments() -> u8 {

@@ -6,7 +6,9 @@ ghost use Rattle.manual.specs.Interrupts.{idle};
 ghost use Rattle.manual.specs.Stepping.{step, longRun};
 ghost use Rattle.text.specs.Written.{Wrote};
 ghost use Rattle.tracing.specs.Traces.{shown, trace};
+
 mod finding; // finding.rt: the sentence
+
 use cpu::single_step;
 pub use finding::put_finding;
 pub use finding::put_verdict;

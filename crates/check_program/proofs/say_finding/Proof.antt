@@ -1,0 +1,21 @@
+-- The sentence is no longer than its buffer.
+use mathlib.Core.Path.{sym}
+use native.Mathlib.Omega.{arith}
+use lib.Seq.{length-take-le}
+use borrow.Author.Needs.{needs}
+use Rattle.check_program.proofs.say_finding.Statement.{statement}
+use Rattle.check_program.proofs.say_finding.Tie as tie
+
+slice-aggregate-say-of : tie.Need-slice-aggregate-say-of
+slice-aggregate-say-of c = sym (length-take-le _ _ (omega (arith, c .before .before .put-finding .ensures .1)))
+
+pub say-finding-spec : {M : Type 1} → statement M
+say-finding-spec =
+    tie.close
+    (tie.spec
+    (search needs)
+    (search needs)
+    (search needs)
+    slice-aggregate-say-of
+    (search needs)
+    (search needs))
