@@ -1,7 +1,7 @@
 //! Links the proved archive. It is the one that SAXUNDEER_ARCHIVE names, or else target/staticlib/libmos6502.a of the
 //! repository, which `rt staticlib mos6502` proves and writes here where it is missing. An archive that is there is taken
-//! as it is: to follow a change of the core, run that command. With the feature `tapes` libtapes_c.a is linked too, which
-//! stands beside the other one, or is written by `rt staticlib tapes_c`.
+//! as it is: to follow a change of the core, run that command. With the feature `tapes` libtapes_c.a is linked too, and
+//! with `traces` libtraces_c.a; each stands beside the other one, or is written by `rt staticlib`.
 
 use std::env;
 use std::path::{Path, PathBuf};
@@ -22,11 +22,14 @@ fn link_all() -> Result<(), String> {
     }
     let given = env::var_os("SAXUNDEER_ARCHIVE").map(PathBuf::from);
     link("mos6502", given.clone())?;
-    if env::var_os("CARGO_FEATURE_TAPES").is_some() {
-        link(
-            "tapes_c",
-            given.map(|name| name.with_file_name("libtapes_c.a")),
-        )?;
+    for (feature, library) in [("TAPES", "tapes_c"), ("TRACES", "traces_c")] {
+        if env::var_os(format!("CARGO_FEATURE_{feature}")).is_some() {
+            let beside = format!("lib{library}.a");
+            link(
+                library,
+                given.as_ref().map(|name| name.with_file_name(beside)),
+            )?;
+        }
     }
     Ok(())
 }

@@ -49,6 +49,8 @@ mod registers;
 mod run_to;
 #[cfg(feature = "tapes")]
 pub mod tapes;
+#[cfg(feature = "traces")]
+pub mod traces;
 #[cfg(test)]
 mod tests;
 
