@@ -1,0 +1,18 @@
+-- A footprint: the addresses of a list in five places, with zeros after them. A sixth has no place.
+use Prim.Native.Nat.{ℕ, _+_}
+use mathlib.Core.Bool.{cond}
+use mathlib.Core.List.{List, [], _∷_, _++_}
+use lib.Dec.{leb}
+use lib.ListN.{length, take, set}
+use Rattle.footprint.specs.declared.places.Footprint.{Footprint}
+
+abbrev pub footprintOf : List ℕ → Footprint
+footprintOf l = record { count = length (take 5 l); places = take 5 (l ++ 0 ∷ 0 ∷ 0 ∷ 0 ∷ 0 ∷ []) }
+
+-- the addresses of a footprint
+abbrev pub addresses : Footprint → List ℕ
+addresses f = take (f .count) (f .places)
+
+-- one address more, where there is a place for it
+abbrev pub added : Footprint → ℕ → Footprint
+added f a = cond (leb 5 (f .count)) f (record { count = f .count + 1; places = set (f .places) (f .count) a })
