@@ -1,0 +1,4 @@
+pub mod Guarded
+pub mod Laws
+pub mod Theorems
+pub mod Sealed
