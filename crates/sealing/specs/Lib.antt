@@ -1,0 +1,4 @@
+pub mod Extract
+pub mod Words
+pub mod Laws
+pub mod Theorems
