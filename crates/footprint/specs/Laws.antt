@@ -1,8 +1,8 @@
 -- Laws that the code's proofs cite.
 use Prim.Native.Nat.{ℕ, _+_, _≤_, _<_}
 use mathlib.Core.Path.{_≡_, refl, ap, sym, _∙_}
-use mathlib.Core.Bool.{Bool, true, false, not, cond, _&&_}
-use mathlib.Core.List.{List, [], _∷_, _++_, append-assoc}
+use mathlib.Core.Bool.{Bool, true, false, cond}
+use mathlib.Core.List.{List, [], _∷_, _++_}
 use native.Mathlib.Omega.{arith}
 use borrow.Author.Tests.{lt-ltb, le-ltb, eq-eqb, ne-eqb}
 use Rattle.instruction.specs.declared.AddressingMode.{AddressingMode}
@@ -20,7 +20,6 @@ use Rattle.manual.specs.Stepping.{fullMemory, highestCount}
 use Rattle.manual.specs.ReadList.{is, operands, pointers, reached, listedDue, listedStepFull, listedStep}
 use Rattle.manual.specs.Theorems.Accesses.{aim}
 use Rattle.manual.specs.Theorems.Stores.{storedByDue, storedByStep}
-use Rattle.footprint.specs.declared.places.Footprint.{Footprint}
 use Rattle.footprint.specs.Places.{footprintOf, added}
 
 -- one address more is one at the end of the list
@@ -40,7 +39,7 @@ pub to-target : (mode : AddressingMode) (r : Registers) (m : List ℕ) {t : Targ
 to-target mode r m {t} counter e g =
     let there : exec (target mode r) m .0 .address ≡ t .address = ap (λ (w : Target × List ℕ). w .0 .address) g in
     added-last (counter ∷ (operands mode r ++ pointers mode r m)) (t .address)
-    ∙ rw (e, there, append-assoc (operands mode r) (pointers mode r m) (t .address ∷ []))
+    ∙ rw (e, there)
 
 -- the address that a mode leads to, as the code finds it
 pub aimed : (mode : AddressingMode) (r : Registers) (m : List ℕ) {t : Target} → Gives (target mode r) m t m

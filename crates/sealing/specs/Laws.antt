@@ -1,27 +1,26 @@
 -- Laws that the code's proofs cite.
 use Prim.Native.Nat.{ℕ, zero, suc, _+_, _≤_, _<_, _^_}
-use mathlib.Core.Path.{_≡_, refl, ap, sym, _∙_, subst}
-use mathlib.Core.Bool.{Bool, true, false, cond, _&&_}
+use mathlib.Core.Path.{_≡_, refl, ap, sym, _∙_}
+use mathlib.Core.Bool.{Bool, true, false, cond}
 use mathlib.Core.List.{List, [], _∷_}
-use native.Mathlib.Nat.{add-zero, add-assoc}
+use native.Mathlib.Nat.{add-zero}
 use native.Mathlib.Decide.{decLt}
 use native.Mathlib.Omega.{arith}
 use borrow.Author.Tests.{eq-eqb, ne-eqb, le-leb, lt-leb}
-use lib.Dec.{leb}
-use lib.ListN.{length, length-set, length-append, getD, set}
+use lib.ListN.{length, length-append, getD, set}
 use lib.Seq.{ext-getD, getD-set-same, getD-set-other}
 use Rattle.manual.specs.declared.Lines.{Lines}
 use Rattle.manual.specs.declared.Machine.{Machine}
 use Rattle.manual.specs.declared.Reason.the-variants.{MemoryNotFull}
 use Rattle.manual.specs.Interrupts.{idle}
 use Rattle.manual.specs.Stepping.{fullMemory}
-use Rattle.text.specs.Numerals.{decimal}
 use Rattle.text.specs.Laws.{decimal-length}
 use Rattle.states.specs.Fields.{machineFields}
 use Rattle.reporting.specs.Report.{imageStart}
 use Rattle.witness.specs.declared.Halt.{Halt}
 use Rattle.witness.specs.declared.Watched.{Watched}
 use Rattle.witness.specs.Guarded.{inStretch, ran, longGuarded}
+use Rattle.witness.specs.Theorems.{never}
 use Rattle.sealing.specs.Extract.{blankedFrom, blanked, extract}
 use Rattle.sealing.specs.Words.{haltLine, unread, would}
 
@@ -67,9 +66,6 @@ module _ (first last : ℕ) where
 
   pub none-yet : (m : List ℕ) → Blanks first m m
   none-yet m = record { kept = λ k h. refl; zeros = λ k l h g. absurd (omega arith) }
-
-  never : {A : Type 0} → true ≡ false → A
-  never e = let z : _≡_ {A = ℕ} 0 1 = cc in absurd (omega arith)
 
   pub one-more : (i : ℕ) (m e : List ℕ) → first ≤ i → i ≤ last → i < length e → Blanks i m e → Blanks (i + 1) m (set e i 0)
   one-more i m e l h f b = record {

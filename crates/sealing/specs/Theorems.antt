@@ -1,14 +1,12 @@
 -- What can be sworn of what the program sealed hands out.
 use Prim.Native.Nat.{ℕ}
-use mathlib.Core.Path.{_≡_, refl, ap, sym, _∙_, subst}
+use mathlib.Core.Path.{_≡_, refl, ap, sym, _∙_}
 use mathlib.Core.Bool.{Bool, true, false, cond}
 use mathlib.Core.List.{List}
 use native.Mathlib.Omega.{arith}
-use borrow.Author.Tests.{eq-eqb}
 use lib.ListN.{length, getD}
 use lib.Seq.{ext-getD}
 use Rattle.manual.specs.declared.Ended.{Ended}
-use Rattle.manual.specs.declared.Machine.{Machine}
 use Rattle.manual.specs.Micro.{stores, Gives}
 use Rattle.manual.specs.Interrupts.{idle}
 use Rattle.manual.specs.Stepping.{fullMemory, longRun}
@@ -17,17 +15,14 @@ use Rattle.manual.specs.Theorems.Sealed.{Differ}
 use Rattle.statuses.specs.declared.Goal.{Goal}
 use Rattle.statuses.specs.Statuses.{reached}
 use Rattle.statuses.specs.Theorems.{only-where-reached}
-use Rattle.reporting.specs.Report.{start, imageStart}
+use Rattle.reporting.specs.Report.{imageStart}
 use Rattle.witness.specs.declared.Watched.{Watched}
 use Rattle.witness.specs.Guarded.{inStretch, longGuarded}
-use Rattle.witness.specs.Theorems.{Under}
+use Rattle.witness.specs.Theorems.{Under, never}
 use Rattle.witness.specs.Sealed.{code-long-apart, long-oath}
 use Rattle.sealing.specs.Extract.{blanked, extract}
 use Rattle.sealing.specs.Words.{sealedStatus}
 use Rattle.sealing.specs.Laws.{blanked-length, blanked-at, extract-whole}
-
-never : {A : Type 0} → true ≡ false → A
-never e = let z : _≡_ {A = ℕ} 0 1 = cc in absurd (omega arith)
 
 module _ (first last : ℕ) where
   abbrev seal : ℕ → Bool

@@ -28,7 +28,8 @@ use Rattle.witness.specs.Guarded.{firstSealed, ran, halted, unless, guar
 abbrev pub Under : (ℕ → Bool) → ℕ → Type 0
 Under seal a = seal a ≡ true
 
-never : {A : Type 0} → true ≡ false → A
+-- true is not false
+pub never : {A : Type 0} → true ≡ false → A
 never e = let z : _≡_ {A = ℕ} 0 1 = cc in absurd (omega arith)
 
 was-made : (r : Reason) → isMade r ≡ true → r ≡ Made

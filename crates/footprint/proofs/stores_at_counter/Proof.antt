@@ -1,8 +1,6 @@
 -- By the entry of the byte at the counter.
-use mathlib.Core.Path.{_≡_, ap, sym, _∙_}
-use denote.Ref.{now}
+use mathlib.Core.Path.{ap, sym, _∙_}
 use borrow.Author.Needs.{needs}
-use lib.ListN.{getD}
 use Rattle.instruction.specs.Opcodes.{decoded}
 use Rattle.footprint.proofs.stores_at_counter.Statement.{statement}
 use Rattle.footprint.proofs.stores_at_counter.Tie as tie

@@ -6,7 +6,6 @@ use denote.Ref.{now}
 use lib.ListN.{length, length-set}
 use Rattle.manual.specs.Stepping.{fullMemory}
 use Rattle.sealing.specs.Laws.{Blanks, none-yet, one-more, all-blanked}
-use borrow.Author.Needs.{needs}
 use Rattle.sealing.proofs.blank.Statement.{statement}
 use Rattle.sealing.proofs.blank.Tie as tie
 
