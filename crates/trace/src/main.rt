@@ -35,8 +35,8 @@ use statuses::FAILED;
 use statuses::Goal;
 use tracing::put_steps;
 
-// A run is made in parts of so many steps, each with its lines in one buffer; a run in parts is the whole run (the theorem
-// `lunch`).
+// A run is made in parts of so many steps, each with its lines in one buffer; a run in parts is the whole run (the theorems
+// `lunch` and `in-parts`).
 const PART: u64 = 1000;
 
 // The lines of a part: 41 is the most that a line can have.

@@ -1,19 +1,21 @@
--- What is printed of a run is a log that the check accepts.
+-- What is printed of a run is a log that the check accepts, and one that is printed in parts is the whole.
 use Prim.Native.Nat.{ℕ, zero, suc, _+_, _-_, _<_}
-use mathlib.Core.Path.{_≡_, refl, ap, _∙_}
-use mathlib.Core.Bool.{false}
-use mathlib.Core.List.{List, [], _++_}
+use mathlib.Core.Path.{_≡_, refl, ap, sym, _∙_}
+use mathlib.Core.Bool.{Bool, true, false, cond}
+use mathlib.Core.List.{List, [], _++_, append-assoc}
+use native.Mathlib.Nat.{zero-add, suc-add}
 use native.Mathlib.Omega.{arith}
 use lib.ListN.{length}
 use Rattle.manual.specs.declared.Machine.{Machine}
 use Rattle.manual.specs.declared.Stepped.{Stepped}
 use Rattle.manual.specs.declared.Ended.{Ended}
 use Rattle.manual.specs.declared.Reason.{Reason}
-use Rattle.manual.specs.declared.Reason.the-variants.{NoCycleRoom, NotAnOpcode}
-use Rattle.manual.specs.Micro.{Gives}
-use Rattle.manual.specs.Outcomes.{isMade, refused}
+use Rattle.manual.specs.declared.Reason.the-variants.{Made, NoCycleRoom, NotAnOpcode}
+use Rattle.manual.specs.Micro.{done, exec, Gives}
+use Rattle.manual.specs.Outcomes.{isMade, refused, ended}
 use Rattle.manual.specs.Interrupts.{idle}
-use Rattle.manual.specs.Stepping.{fullMemory, stepFull, longRun}
+use Rattle.manual.specs.Stepping.{fullMemory, stepFull, runFull, longRun}
+use Rattle.manual.specs.Theorems.Programs.{exec-bind}
 use Rattle.manual.specs.Theorems.StepLaws.{long-whole, step-late, step-undefined}
 use Rattle.manual.specs.Theorems.Within.{Bytes}
 use Rattle.manual.specs.Theorems.RunAnswers.{Leads, Ends, all-made, no-cycle-room, not-an-opcode, run-ends}
@@ -21,7 +23,7 @@ use Rattle.state_lines.specs.Lines.{Spellable, lineText}
 use Rattle.checking.specs.Checking.{checkedOf, checkedTrace}
 use Rattle.checking.specs.Logs.{logText}
 use Rattle.checking.specs.Honest.{laterStates, honest-accepted}
-use Rattle.tracing.specs.Traces.{fullTrace, trace}
+use Rattle.tracing.specs.Traces.{shown, fullTrace, trace}
 use Rattle.tracing.specs.Laws.{on-full}
 
 -- where k steps are made, n of them at most, and then none: their lines
@@ -72,3 +74,30 @@ module _ (image copy : List ℕ) (s : Machine) (full : length image ≡ fullMemo
       by-end (no-cycle-room {k} {s′} {m′ = m″} l led r) = of-lines k s′ m″ led (stopped k s′ m″ NoCycleRoom l led (step-late idle s′ m″ r) refl)
       by-end (not-an-opcode {k} {s′} {m′ = m″} l led r) =
           of-lines k s′ m″ led (stopped k s′ m″ NotAnOpcode l led (step-undefined idle s′ m″ (r .0) (r .1) (r .2)) refl)
+
+-- ---- in parts
+
+-- a step that is refused was not made
+not-made-by : (r : Reason) → isMade r ≡ false → r ≡ Made → ⊥
+not-made-by r h e = let z : _≡_ {A = ℕ} 0 1 = ap (λ (b : Bool). cond b 0 1) (sym (ap isMade e) ∙ h) in omega arith
+
+module _ (a b k : ℕ) (s : Machine) (m : List ℕ) (q : Ended) (m′ : List ℕ) where
+  after-step : (t : Bool) (v : Stepped) (e : List ℕ) → isMade (v .reason) ≡ t
+      → Gives (cond t (runFull a (k + 1) idle (v .machine)) (done (ended (v .reason) k (v .machine)))) e q m′
+      → q .reason ≡ Made
+      → (Gives (runFull a (k + 1) idle (v .machine)) e q m′ → fullTrace (a + b) (v .machine) e ≡ fullTrace a (v .machine) e ++ fullTrace b (q .machine) m′)
+      → shown v ++ cond t (fullTrace (a + b) (v .machine) e) []
+      ≡ (shown v ++ cond t (fullTrace a (v .machine) e) []) ++ fullTrace b (q .machine) m′
+  after-step true v e f g h rest = ap (λ (l : List ℕ). shown v ++ l) (rest g) ∙ sym (append-assoc (shown v) _ _)
+  after-step false v e f g h rest = absurd (not-made-by (v .reason) f (ap (λ (w : Ended × List ℕ). w .0 .reason) g ∙ h))
+
+-- Where all of the first a steps are made, the lines of a + b steps are those of the a, and then those of b more from what they leave: a trace in
+-- parts is the whole trace.
+pub in-parts : (a b k : ℕ) (s : Machine) (m : List ℕ) {q : Ended} {m′ : List ℕ} → Gives (runFull a k idle s) m q m′ → q .reason ≡ Made
+    → fullTrace (a + b) s m ≡ fullTrace a s m ++ fullTrace b (q .machine) m′
+unfolding runFull fullTrace
+in-parts zero b k s m g h = rw zero-add (ap (λ (w : Ended × List ℕ). fullTrace b (w .0 .machine) (w .1)) g)
+in-parts (suc a) b k s m {q} {m′} g h =
+    let w = exec (stepFull idle s) m in
+    rw suc-add
+    (after-step a b k s m q m′ (isMade (w .0 .reason)) (w .0) (w .1) refl (sym (exec-bind (stepFull idle s) _ m) ∙ g) h (λ r. in-parts a b (k + 1) (w .0 .machine) (w .1) r h))
