@@ -52,7 +52,7 @@ fn read_more(descriptor: i32, kept: usize, buffer: &mut [u8]) -> Input
 }
 
 // Where a part ends: after its last LF. At the end of the log it is all there is, and so it is where more than 64 characters
-// stand after that LF, for no line has more than 41.
+// stand after that LF, for no line has more than 41 (the theorems `joined` and `overlong` of checking).
 fn part_end(size: usize, whole: usize, ended: bool) -> usize
     requires { ⌜ whole ≤ size ⌝ }
     ensures { λ r. ⌜ r ≡ cond ended size (cond (ltb 64 (size - whole)) size whole) ⌝ }

@@ -5,11 +5,12 @@ use mathlib.Core.Logic.{inl, inr}
 use mathlib.Core.Bool.{Bool, true, false, cond}
 use mathlib.Core.List.{List, [], _∷_, _++_}
 use native.Mathlib.Nat.{not-suc-le-zero}
+use native.Mathlib.Decide.{ℕ-discrete}
 use native.Mathlib.Omega.{arith}
 use lib.Dec.{eqb}
 use lib.ListN.{length, getD, take}
 use lib.Seq.{take-suc}
-use borrow.Author.Tests.{eq-eqb, ne-eqb, eqb-true}
+use borrow.Author.Tests.{eq-eqb, ne-eqb, eqb-true, eqb-false}
 use Rattle.checking.specs.Parts.{Whole}
 
 -- the place after the last LF among the first n characters; 0 where there is none
@@ -50,3 +51,18 @@ whole-before (suc n) s h = go (eqb (getD s n 0) 10) refl (whole-before n s (omeg
 
 pub cut-whole : (s : List ℕ) → Whole (take (wholeEnd s) s)
 cut-whole s = whole-before (length s) s (omega arith)
+
+-- ---- what stands after the cut has no LF
+
+after-before : (n i : ℕ) (s : List ℕ) → endBefore n s ≤ i → i < n → getD s i 0 ≡ 10 → ⊥
+unfolding endBefore
+after-before zero i s h l e = omega arith
+after-before (suc n) i s h l e = go (eqb (getD s n 0) 10) refl (ℕ-discrete i n) h (λ k j. after-before n i s k j e)
+  where
+    go : (t : Bool) → eqb (getD s n 0) 10 ≡ t → Dec (i ≡ n) → cond t (suc n) (endBefore n s) ≤ i → (endBefore n s ≤ i → i < n → ⊥) → ⊥
+    go true g d k before = omega arith
+    go false g (yes d) k before = eqb-false (getD s n 0) 10 g (ap (λ (j : ℕ). getD s j 0) (sym d) ∙ e)
+    go false g (no d) k before = before k (omega arith)
+
+pub no-feed : (s : List ℕ) (i : ℕ) → wholeEnd s ≤ i → i < length s → getD s i 0 ≡ 10 → ⊥
+no-feed s i h l = after-before (length s) i s h l

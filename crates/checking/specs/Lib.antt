@@ -6,3 +6,4 @@ pub mod Theorems
 pub mod Honest
 pub mod Parts
 pub mod Cutting
+pub mod Overlong
