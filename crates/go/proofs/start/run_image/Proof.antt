@@ -3,8 +3,8 @@ use mathlib.Core.Path.{_∙_}
 use Rattle.manual.specs.Theorems.StepLaws.{long-short}
 use Rattle.reporting.specs.Laws.{started}
 use borrow.Author.Needs.{needs}
-use Rattle.go.proofs.run_image.Statement.{statement}
-use Rattle.go.proofs.run_image.Tie as tie
+use Rattle.go.proofs.start.run_image.Statement.{statement}
+use Rattle.go.proofs.start.run_image.Tie as tie
 
 returns : tie.Need-returns
 returns c =
