@@ -18,6 +18,8 @@ use Rattle.manual.specs.Stepping.{fullMemory, longRun}
 use Rattle.manual.specs.Theorems.StepLaws.{long-short, long-whole}
 use Rattle.manual.specs.Theorems.RunAnswers.{Ends, all-made, no-cycle-room, not-an-opcode, run-ends}
 use Rattle.manual.specs.Theorems.Lunch.{added, full-lunch, full-stopped}
+use Rattle.go.specs.declared.start.Start.the-variants.{From}
+use Rattle.go.specs.Starts.{runFrom}
 
 pub was-made : (r : Reason) → isMade r ≡ true → r ≡ Made
 was-made Made e = refl
@@ -114,3 +116,8 @@ module _ {w : Ended × List ℕ} (j size steps k : ℕ) (s : Machine) (m : List 
   -- it was stopped
   pub halt : (q .reason ≡ Made → ⊥) → w ≡ added j (q, m′)
   halt f = h ∙ ap (λ (i : ℕ). added j (exec (longRun size i idle s) m)) split ∙ ap (added j) (long-stopped size k s m g rest f)
+
+-- Whoever halts a run after k steps and goes on for n more, from the state that it left, has what k + n steps give, and the steps add up.
+pub went-on : (size k n : ℕ) (s : Machine) (m : List ℕ) {q : Ended} {m′ : List ℕ} → Gives (runFrom (From s) k size) m q m′ → q .reason ≡ Made
+    → exec (runFrom (From s) (k + n) size) m ≡ added k (exec (runFrom (From (q .machine)) n size) m′)
+went-on size k n s m g made = long-lunch size k s m g n made
