@@ -28,7 +28,7 @@ use log::Found;
 use log::check_log;
 use manual::Ended;
 use memory::image_buffer;
-use reporting::put_sentence;
+use sentences::put_sentence;
 use statuses::FAILED;
 use statuses::Goal;
 use statuses::first_of;

@@ -2,17 +2,14 @@
 ghost use mathlib.Core.Path.{_≡_};
 ghost use mathlib.Core.Bool.{cond};
 ghost use Prim.Native.Nat.{_+_, _≤_, _<_};
-ghost use lib.Dec.{leb, ltb};
+ghost use lib.Dec.{ltb};
 ghost use lib.ListN.{length};
 ghost use Rattle.manual.specs.Micro.{Gives};
 ghost use Rattle.manual.specs.Outcomes.{machineOf, ended};
 ghost use Rattle.manual.specs.Interrupts.{due};
 ghost use Rattle.manual.specs.Stepping.{fullMemory, highestBound, step, runFull, run, longRun};
-ghost use Rattle.manual.specs.Spending.{runCycles};
 ghost use Rattle.cpu.specs.Travelling.{travelled, travelling};
-ghost use Rattle.cpu.specs.Lifting.{lift, lifted, lowered};
 ghost use Rattle.cpu.specs.Turning.{raised, serving, Calm, reach, turning};
-use dispatch::dispatch;
 use manual::Due;
 use manual::Ended;
 use manual::FULL_MEMORY;
@@ -29,6 +26,10 @@ use memory::get_byte;
 use registers::Registers;
 use rows::Dispatched;
 use stack::serve;
+
+mod dispatching; // dispatching.rt: what an opcode does
+
+pub use dispatching::dispatch;
 
 // What a turn leaves: the answer of its steps, and the address that the last of them put out first.
 pub struct Travelled {
@@ -199,47 +200,4 @@ pub fn long_run(machine: Machine, steps: u64, lines: Lines, memory: &mut [u8]) -
         return Ended::new(Reason::MemoryNotFull, 0, machine);
     }
     travel(machine, steps, lines, memory)
-}
-
-// The lowest cycle count from which no step is made.
-const ROOM_END: u64 = HIGHEST_COUNT + 1;
-
-// By how much a count is lifted, so that a run by cycles comes to the end of the room where its limit is spent. Where the limit
-// lies behind that end, it is not lifted.
-pub fn lift(from: u64, limit: u64) -> u64
-    requires { ⌜ limit ≤ highestBound ⌝ }
-    ensures { λ r. ⌜ r ≡ lift from limit ⌝ }
-{
-    let last = ROOM_END - limit;
-    if from < last { last - from } else { 0 }
-}
-
-// Whether `limit` cycles or more are spent at a count, on from another.
-pub fn spent(from: u64, limit: u64, count: u64) -> bool
-    ensures { λ r. ⌜ r ≡ leb (from + limit) count ⌝ }
-{
-    from <= count && limit <= count - from
-}
-
-// A run that is over when `limit` or more cycles are spent. The loop tests a count for the room alone, and so the run is made
-// with its count lifted.
-pub fn run_cycles(machine: Machine, limit: u64, lines: Lines, memory: &mut [u8]) -> Ended
-    ensures { λ r. ⌜ Gives (runCycles (length (now (memory .entry))) limit lines machine) (now (memory .entry)) r (now (memory .exit)) ⌝ }
-{
-    if memory.len() != FULL_MEMORY {
-        return Ended::new(Reason::MemoryNotFull, 0, machine);
-    }
-    if HIGHEST_BOUND < limit {
-        return Ended::new(Reason::BoundTooHigh, 0, machine);
-    }
-    let by = lift(machine.cycles, limit);
-    let high = Machine::new(machine.registers, machine.cycles + by, machine.nmi);
-    let ended = travel(high, limit, lines, memory);
-    let after = ended.machine;
-    let left = Machine::new(after.registers, after.cycles - by, after.nmi);
-    if spent(machine.cycles, limit, left.cycles) {
-        return Ended::new(Reason::Made, ended.steps, left);
-    }
-    let reason = ended.reason;
-    Ended::new(reason, ended.steps, left)
 }

@@ -3,7 +3,7 @@ ghost use mathlib.Core.Path.{_≡_};
 ghost use Rattle.statuses.specs.Statuses.{endStatus};
 use console::say_of;
 use manual::Ended;
-use reporting::put_sentence;
+use sentences::put_sentence;
 use statuses::Goal;
 use statuses::end_status;
 

@@ -17,21 +17,21 @@
 // What is run, the line, the sentence and the status are promised by the crates reporting and statuses.
 use console::address_argument;
 use console::argument_is;
-use console::can_replace;
 use console::count_argument;
 use console::hand_over;
 use console::has_option;
 use console::read_input;
 use console::refuse;
-use console::replace;
 use console::say_of;
 use console::write_output;
 use ending::say_ending;
+use files::can_replace;
+use files::replace;
 use manual::Ended;
 use memory::image_buffer;
 use parts::wipe;
 use reading::NOWHERE;
-use reporting::put_line;
+use sentences::put_line;
 use start::Start;
 use start::run_from;
 use start::state_argument;

@@ -1,3 +1,4 @@
 pub mod Agree
+pub mod LastArm
 pub mod Characters
 pub mod Repeats

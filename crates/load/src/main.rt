@@ -15,13 +15,13 @@
 //
 // What is laid, the answer and the sentence are promised by the crate loading; here it is only read and written.
 use console::argument_is;
-use console::can_replace;
 use console::hand_over;
 use console::has_option;
 use console::read_input;
 use console::refuse;
-use console::replace;
 use console::say_of;
+use files::can_replace;
+use files::replace;
 use loading::Format;
 use loading::Verdict;
 use loading::format_of;

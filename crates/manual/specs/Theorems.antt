@@ -18,7 +18,7 @@ pub mod IntegerLemmas
 pub mod BinaryArithmetic
 pub mod Complement
 pub mod DecimalDigits
-pub mod Examples
+pub mod Laying
 pub mod InstructionLaws
 pub mod Extra
 pub mod FirstAddress

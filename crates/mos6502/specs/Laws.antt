@@ -25,7 +25,7 @@ use Rattle.manual.specs.Theorems.Spending.{cycles-short, cycles-long, cycles-wh
 use Rattle.cpu.specs.declared.Travelled.{Travelled}
 use Rattle.cpu.specs.Travelling.{travelled, travelling, travel-run}
 use Rattle.cpu.specs.Turning.{levelled, turning, settles, settled, turned, one-step, turn-step}
-use Rattle.cpu.specs.Lifting.{lift, lifted, lowered, lifted-least, lifted-spent, lifted-unspent}
+use Rattle.cycles.specs.Lifting.{lift, lifted, lowered, lifted-least, lifted-spent, lifted-unspent}
 use Rattle.mos6502.specs.Numbers.{machineFrom, linesFrom, registersAfter, cyclesAfter, StepNumbers, RunNumbers, TurnNumbers, stepNumbers, runNumbers, turnNumbers, stepOnNumbers, runOnNumbers, longRunOnNumbers, runCyclesOnNumbers, runFullOnNumbers, turnOnNumbers}
 
 -- a run of one has made a step exactly where it answers so

@@ -5,7 +5,7 @@ use mathlib.Core.List.{List, [], map}
 use lib.ListN.{getD}
 use Rattle.laws.specs.Agree.{agree}
 use Rattle.laws.specs.Characters.{characters}
-use Rattle.opcodes.specs.Operations.{operations, operationAt}
+use Rattle.meaning.specs.Operations.{operations, operationAt}
 use Rattle.opcodes.specs.Arrays.{entryIn, entry-defined, entry-undefined}
 use Rattle.opcodes.specs.Names.{mnemonic, nameOf}
 

@@ -7,9 +7,7 @@ use instruction::Entry;
 use meaning::mode_at;
 use meaning::operation_at;
 
-pub mod meaning; // meaning.rt: what the numbers stand for
 mod names; // names.rt: the names of the operations
-pub mod number; // number.rt: the numbers of the operations and of the addressing modes
 
 pub use names::name_of;
 

@@ -1,12 +1,11 @@
-// What each class of instruction does, after execute_instruction of cpu.rs.
+// What each class of instruction does that does not use the stack, after execute_instruction of cpu.rs.
 ghost use mathlib.Core.Path.{_≡_};
 ghost use lib.ListN.{length};
-ghost use Rattle.manual.specs.Micro.{Gives};
+ghost use Rattle.instruction.specs.Modes.{operandBytes};
+ghost use Rattle.manual.specs.Micro.{done, Gives};
 ghost use Rattle.manual.specs.Branching.{holds, branched};
 ghost use Rattle.manual.specs.Instructions.{stored, advanced, perform};
 ghost use Rattle.manual.specs.Stepping.{fullMemory};
-ghost use Rattle.manual.specs.Shifting.{modified, modifiedFlags};
-ghost use Rattle.registers.specs.State.{setA};
 use addressing::advanced;
 use addressing::target_of;
 use alu::apply_internal;
@@ -30,17 +29,9 @@ use memory::set_byte;
 use registers::Registers;
 use registers::Status;
 use registers::flag;
-use stack::force_break;
-use stack::jump_to_subroutine;
-use stack::pull_accumulator;
-use stack::pull_status;
-use stack::push_accumulator;
-use stack::push_status;
-use stack::return_from_interrupt;
-use stack::return_from_subroutine;
 
 // Loads, logic, ADC, SBC, compares and BIT: a page cross is charged.
-fn read(
+pub fn read(
     operation: ReadOperation,
     mode: AddressingMode,
     registers: Registers,
@@ -67,7 +58,7 @@ fn stored(operation: StoreOperation, registers: Registers) -> u8
 }
 
 // Stores: no page cross is charged.
-fn store(
+pub fn store(
     operation: StoreOperation,
     mode: AddressingMode,
     registers: Registers,
@@ -85,35 +76,31 @@ fn store(
     leaves_at(target.first, advanced(mode, registers), 0)
 }
 
-// A modification of the accumulator.
-fn modify_accumulator(
+// A shift or a rotate of the accumulator, which nothing is read or stored for.
+pub fn modify_accumulator(
     operation: ModifyOperation,
     mode: AddressingMode,
     registers: Registers,
-) -> Registers
-    ensures { λ r.
-        ⌜ r
-        ≡ setA (modified operation (registers .accumulator) (registers .status .carry))
-        (modifiedFlags operation (registers .accumulator) (advanced mode registers)) ⌝ }
+) -> Effect
+    requires { ⌜ operandBytes mode ≡ 0 ⌝ }
+    ensures { λ r. ⌜ perform (Instruction.Modify operation) mode registers ≡ done r ⌝ }
 {
     let byte = registers.accumulator;
     let changed = modify_byte(operation, byte, registers.status.carry);
-    set_flags_from_modified(operation, advanced(mode, registers), byte).with_accumulator(changed)
+    let after = set_flags_from_modified(operation, advanced(mode, registers), byte);
+    leaves(after.with_accumulator(changed), 0)
 }
 
-// Shifts, rotates, INC and DEC: with no operand byte it is the accumulator that is modified, and no page cross is charged.
-fn modify(
+// Shifts, rotates, INC and DEC of a byte in memory: no page cross is charged.
+pub fn modify(
     operation: ModifyOperation,
     mode: AddressingMode,
     registers: Registers,
     memory: &mut [u8],
 ) -> Effect
-    requires { ⌜ length (now memory) ≡ fullMemory ⌝ }
+    requires { ⌜ (length (now memory) ≡ fullMemory) × (operandBytes mode ≡ 0 → ⊥) ⌝ }
     ensures { λ r. ⌜ Gives (perform (Instruction.Modify operation) mode registers) (now (memory .entry)) r (now (memory .exit)) ⌝ }
 {
-    if mode.extra_bytes() == 0 {
-        return leaves(modify_accumulator(operation, mode, registers), 0);
-    }
     let target = target_of(mode, registers, memory);
     let byte = get_byte(memory, Address(target.address));
     set_byte(
@@ -154,7 +141,7 @@ fn branched(taken: bool, target: Target, registers: Registers) -> Effect
 }
 
 // Branches.
-fn branch(
+pub fn branch(
     operation: BranchOperation,
     mode: AddressingMode,
     registers: Registers,
@@ -169,50 +156,17 @@ fn branch(
 }
 
 // The operations on registers and flags alone.
-fn internal(
-    operation: InternalOperation,
-    mode: AddressingMode,
-    registers: Registers,
-    memory: &[u8],
-) -> Effect
-    ensures { λ r. ⌜ Gives (perform (Instruction.Internal operation) mode registers) (now (memory .entry)) r (now (memory .entry)) ⌝ }
+pub fn internal(operation: InternalOperation, mode: AddressingMode, registers: Registers) -> Effect
+    ensures { λ r. ⌜ perform (Instruction.Internal operation) mode registers ≡ done r ⌝ }
 {
     leaves(apply_internal(operation, advanced(mode, registers)), 0)
 }
 
 // JMP.
-fn jump(mode: AddressingMode, registers: Registers, memory: &[u8]) -> Effect
+pub fn jump(mode: AddressingMode, registers: Registers, memory: &[u8]) -> Effect
     requires { ⌜ length (now memory) ≡ fullMemory ⌝ }
     ensures { λ r. ⌜ Gives (perform Instruction.JMP mode registers) (now (memory .entry)) r (now (memory .entry)) ⌝ }
 {
     let target = target_of(mode, registers, memory);
     leaves_at(target.first, registers.with_counter(target.address), 0)
-}
-
-// An instruction in an addressing mode, by its class.
-pub fn execute_instruction(
-    instruction: Instruction,
-    mode: AddressingMode,
-    registers: Registers,
-    memory: &mut [u8],
-) -> Effect
-    requires { ⌜ length (now memory) ≡ fullMemory ⌝ }
-    ensures { λ r. ⌜ Gives (perform instruction mode registers) (now (memory .entry)) r (now (memory .exit)) ⌝ }
-{
-    match instruction {
-        Instruction::Read(operation) => read(operation, mode, registers, memory),
-        Instruction::Store(operation) => store(operation, mode, registers, memory),
-        Instruction::Modify(operation) => modify(operation, mode, registers, memory),
-        Instruction::Branch(operation) => branch(operation, mode, registers, memory),
-        Instruction::Internal(operation) => internal(operation, mode, registers, memory),
-        Instruction::BRK => force_break(mode, registers, memory),
-        Instruction::JMP => jump(mode, registers, memory),
-        Instruction::JSR => jump_to_subroutine(mode, registers, memory),
-        Instruction::PHA => push_accumulator(mode, registers, memory),
-        Instruction::PHP => push_status(mode, registers, memory),
-        Instruction::PLA => pull_accumulator(mode, registers, memory),
-        Instruction::PLP => pull_status(mode, registers, memory),
-        Instruction::RTI => return_from_interrupt(mode, registers, memory),
-        Instruction::RTS => return_from_subroutine(mode, registers, memory),
-    }
 }

@@ -10,7 +10,7 @@
 // running; 1 the image is not 65,536 bytes long; 64 wrong usage, 66 an image cannot be opened, 74 reading or writing
 // failed. Of several images the first status that is not 0; every one that can be read is run.
 //
-// What the line, the sentence and the status say is promised by the crates reporting and statuses.
+// What the line, the sentence and the status say is promised by image.rt, and by the crates sentences and statuses.
 use console::address_argument;
 use console::argument_is;
 use console::hand_over;
@@ -19,12 +19,14 @@ use console::read_input;
 use console::refuse;
 use console::write_output;
 use ending::say_ending;
+use image::report;
 use memory::image_buffer;
 use reading::NOWHERE;
-use reporting::report;
 use statuses::FAILED;
 use statuses::Goal;
 use statuses::first_of;
+
+mod image; // image.rt: the run of an image, and its line
 
 // 64 is the most that a line can have: see `report`.
 fn report_image(index: usize, goal: Goal, image: &mut [u8]) -> u8 {

@@ -1,4 +1,3 @@
 pub mod Report
-pub mod Sentence
 pub mod Laws
 pub mod Theorems

@@ -1,7 +1,7 @@
 -- The report of an image, as the rules have it (docs/RULES.md): the run that is made, and the line that is printed.
 use Prim.Native.Nat.{ℕ}
 use mathlib.Core.Bool.{true, false, cond}
-use mathlib.Core.List.{List, _++_}
+use mathlib.Core.List.{List}
 use lib.Dec.{eqb}
 use lib.ListN.{length, getD}
 use Rattle.registers.specs.State.{statusOf, registersOf}
@@ -11,12 +11,10 @@ use Rattle.manual.specs.declared.Reason.the-variants.{MemoryNotFull}
 use Rattle.manual.specs.Micro.{Micro, done, _>>=_, exec}
 use Rattle.manual.specs.Words.{joined}
 use Rattle.manual.specs.Addressing.{word}
-use Rattle.manual.specs.Outcomes.{machineOf, number, ended}
+use Rattle.manual.specs.Outcomes.{machineOf, ended}
 use Rattle.manual.specs.Interrupts.{idle}
 use Rattle.manual.specs.Stepping.{fullMemory, run, longRun}
-use Rattle.laws.specs.Characters.{characters}
-use Rattle.text.specs.Numerals.{decimal, spaced}
-use Rattle.states.specs.Fields.{machineFields}
+use Rattle.sentences.specs.Line.{line}
 
 -- A, X, Y 00, S FF, only I set, no cycles; NMI was high
 unfoldable pub start : ℕ → Machine
@@ -40,14 +38,6 @@ longImageRun steps size = fromStart (longRun size steps idle) size
 -- the machine that an image starts with
 unfoldable pub imageStart : List ℕ → Machine
 imageStart image = cond (eqb (length image) fullMemory) (start (joined (getD image 0xFFFD 0) (getD image 0xFFFC 0))) (start 0)
-
--- the reason, the number of steps, and the machine
-unfoldable pub allFields : Ended → List ℕ
-allFields q =
-    decimal (number (q .reason)) ++ spaced (decimal (q .steps)) ++ spaced (machineFields (q .machine)) ++ characters "\n"
-
-unfoldable pub line : Ended → List ℕ
-line q = cond (eqb (number (q .reason)) 1) (characters "1\n") (allFields q)
 
 -- the line that is printed for an image
 abbrev pub reportLine : List ℕ → List ℕ

@@ -1,6 +1,6 @@
 -- What the definition of the report gives.
 use Prim.Native.Nat.{ℕ, _*_, _<_, _≤_}
-use mathlib.Core.Path.{_≡_, refl, ap, sym, _∙_}
+use mathlib.Core.Path.{_≡_, refl, sym, _∙_}
 use mathlib.Core.Bool.{Bool, true, false}
 use mathlib.Core.List.{List, [], _∷_}
 use mathlib.Core.Logic.{_⊎_, inl, inr}
@@ -21,20 +21,18 @@ use Rattle.manual.specs.Addressing.{target}
 use Rattle.manual.specs.Interrupts.{idle}
 use Rattle.manual.specs.Instructions.{taken, perform}
 use Rattle.manual.specs.Stepping.{act, attend, stepFull, runFull, run, longRun, fullMemory}
-use Rattle.manual.specs.Theorems.Examples.{memory}
+use Rattle.manual.specs.Theorems.Laying.{memory}
 use Rattle.manual.specs.Theorems.RegistersInRange.{InRange}
 use Rattle.manual.specs.Theorems.Within.{Bytes}
 use Rattle.manual.specs.Theorems.Ranges.{run-ranges}
 use Rattle.manual.specs.Theorems.StepLaws.{run-whole, long-whole}
 use Rattle.manual.specs.Theorems.Answers.{NoOpcode}
 use Rattle.manual.specs.Theorems.RunAnswers.{Leads, Ends, all-made, no-cycle-room, not-an-opcode, run-all, run-ends}
-use Rattle.manual.specs.Theorems.OneResult.{one-result}
 use Rattle.laws.specs.Characters.{characters}
 use Rattle.text.specs.Numerals.{digit, digits, decimal}
-use Rattle.text.specs.Written.{Wrote, one-text}
 use Rattle.states.specs.Fields.{machineFields}
-use Rattle.reporting.specs.declared.Reported.{Reported}
-use Rattle.reporting.specs.Report.{start, fromStart, imageRun, longImageRun, allFields, line, reportLine}
+use Rattle.sentences.specs.Line.{allFields, line}
+use Rattle.reporting.specs.Report.{start, fromStart, imageRun, longImageRun, reportLine}
 use Rattle.reporting.specs.Laws.{image-refused, image-run}
 
 -- The rules' example: LDA #05, and then a byte that is no opcode.
@@ -98,16 +96,3 @@ same-run image = by-length (eqb (length image) fullMemory) refl
     by-length false e =
         let other = eqb-false (length image) fullMemory e in
         image-refused (longRun (length image) 1000 idle) (length image) image other ∙ sym (image-refused (run (length image) 1000 idle) (length image) image other)
-
--- The promise of `report` admits one result only: one answer, one length, one image and one text.
-pub one-report : (image text : List ℕ) (r₁ r₂ : Reported) {i₁ i₂ t₁ t₂ : List ℕ}
-    → Wrote text 0 (reportLine image) t₁ (r₁ .size) → Gives (imageRun (length image)) image (r₁ .ended) i₁
-    → Wrote text 0 (reportLine image) t₂ (r₂ .size) → Gives (imageRun (length image)) image (r₂ .ended) i₂
-    → (r₁ ≡ r₂) × (i₁ ≡ i₂) × (t₁ ≡ t₂)
-one-report image text r₁ r₂ w₁ g₁ w₂ g₂ =
-    let same = one-result (imageRun (length image)) image g₁ g₂ in
-    let written = one-text w₁ w₂ in (
-      ap (λ (q : Ended). record { ended = q; size = r₁ .size }) (same .0) ∙ ap (λ (n : ℕ). record { ended = r₂ .ended; size = n }) (written .1),
-      same .1,
-      written .0,
-    )

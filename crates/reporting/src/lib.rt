@@ -1,35 +1,30 @@
-// The work of the program report, as the rules have it (docs/RULES.md): an image is run, and a line says how that ended.
-mod image; // image.rt: the run of an image
-mod line; // line.rt: its line
-mod sentence; // sentence.rt: its answer in words
+// Where the run of an image begins, and what a report of it is (specs/).
+ghost use mathlib.Core.Path.{_≡_};
+ghost use Rattle.reporting.specs.Report.{start as Report·start, imageStart};
+use manual::FULL_MEMORY;
+use manual::Machine;
+use memory::Address;
+use memory::address_from_bytes;
+use memory::read_address;
+use registers::Registers;
+use registers::Status;
 
-ghost use Prim.Native.Nat.{_≤_};
-ghost use lib.ListN.{length};
-ghost use Rattle.manual.specs.Micro.{Gives};
-ghost use Rattle.text.specs.Written.{Wrote};
-ghost use Rattle.reporting.specs.Report.{imageRun, reportLine};
-use image::run_image;
-pub use image::start_image;
-pub use line::put_line;
-use manual::Ended;
-pub use sentence::put_sentence;
-
-// How the run ended, and how long its line is.
-pub struct Reported {
-    pub ended: Ended,
-    pub size: usize,
+// The machine that a program starts with.
+fn start(counter: u16) -> Machine
+    ensures { λ r. ⌜ r ≡ Report·start counter ⌝ }
+{
+    let status = Status::new(false, false, false, true, false, false);
+    let registers = Registers::new(0x00, 0x00, 0x00, 0xFF, counter, status);
+    Machine::new(registers, 0, true)
 }
 
-// Runs the image and puts its line at the start of `text`. What does not fit there is dropped.
-pub fn report(image: &mut [u8], text: &mut [u8]) -> Reported
-    ensures { λ r. ⌜ Wrote (now (text .entry)) 0 (reportLine (now (image .entry))) (now (text .exit)) (r .size) ⌝ }
-    ensures { λ r. ⌜ Gives (imageRun (length (now (image .entry)))) (now (image .entry)) (r .ended) (now (image .exit)) ⌝ }
-    ensures { λ r. ⌜ r .size ≤ 64 ⌝ }
+// The machine that an image starts with. One of another length is not looked at.
+pub fn start_image(image: &[u8]) -> Machine
+    ensures { λ r. ⌜ r ≡ imageStart (now (image .entry)) ⌝ }
 {
-    let ended = run_image(image);
-    let size = put_line(text, 0, ended);
-    Reported {
-        ended: ended,
-        size: size,
+    if image.len() != FULL_MEMORY {
+        return start(0);
     }
+    let first = address_from_bytes(read_address(image, Address(0xFFFC), Address(0xFFFD)));
+    start(first.0)
 }

@@ -1,15 +1,9 @@
-// A row of the opcode table carried out: an operation, an addressing mode and base cycles.
+// What a row of the opcode table gives: an operation, an addressing mode and base cycles carried out. The rows that store and
+// those that keep the memory as it is have a crate each: lines that only look at a memory are checked in a third of the time.
 ghost use mathlib.Core.Path.{_≡_};
 ghost use Prim.Native.Nat.{_+_, _≤_};
-ghost use lib.ListN.{length};
-ghost use Rattle.instruction.specs.Table.{mostExtra};
-ghost use Rattle.opcodes.specs.Operations.{operationAt};
-ghost use Rattle.manual.specs.Micro.{Gives};
-ghost use Rattle.manual.specs.Stepping.{fullMemory};
-ghost use Rattle.rows.specs.Performing.{entryOf, performed};
-use opcodes::meaning::mode_at;
-use opcodes::meaning::operation_at;
-use operations::execute_instruction;
+ghost use Rattle.rows.specs.Performing.{countedFrom};
+use manual::Effect;
 use registers::Registers;
 
 // What an opcode's instruction leaves: the registers, all the cycles that it takes, and the address that it put out first.
@@ -25,22 +19,11 @@ pub enum Dispatched {
     NotAnOpcode,
 }
 
-// One instruction. Its operation and its mode come as numbers: where it is called they are fixed, so that the compiler
-// leaves the rest out; and a line that makes no enum is checked in a third of the time.
-pub fn instruct(
-    operation: u8,
-    mode: u8,
-    cycles: u8,
-    registers: Registers,
-    memory: &mut [u8],
-) -> Dispatched
-    requires { ⌜ (length (now memory) ≡ fullMemory) × (cycles + mostExtra (operationAt operation) ≤ 7) ⌝ }
-    ensures { λ r.
-        ⌜ Gives (performed (entryOf operation mode cycles) registers) (now (memory .entry)) r (now (memory .exit)) ⌝ }
+// What an instruction's effect comes to, with the base cycles.
+pub fn counted(cycles: u8, effect: Effect) -> Dispatched
+    requires { ⌜ cycles + effect .extra ≤ 255 ⌝ }
+    ensures { λ r. ⌜ r ≡ countedFrom cycles effect ⌝ }
 {
-    let instruction = operation_at(operation);
-    let way = mode_at(mode);
-    let effect = execute_instruction(instruction, way, registers, memory);
     let after = effect.registers;
     Dispatched::Performed(Performed {
         registers: after,

@@ -6,7 +6,7 @@ use Rattle.text.specs.Numerals.{decimal, spaced, hex4}
 use Rattle.states.specs.Fields.{machineFields}
 use Rattle.statuses.specs.declared.Goal.{Goal}
 use Rattle.statuses.specs.Statuses.{endStatus}
-use Rattle.reporting.specs.Report.{line}
+use Rattle.sentences.specs.Line.{line}
 use Rattle.witness.specs.declared.Watched.{Watched}
 use Rattle.witness.specs.declared.Halt.{Halt}
 

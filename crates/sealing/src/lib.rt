@@ -10,8 +10,8 @@ ghost use Rattle.sealing.specs.Words.{sealedStatus, haltLine, sealedLine
 use manual::FULL_MEMORY;
 use manual::Lines;
 use manual::Reason;
-use reporting::put_line;
 use reporting::start_image;
+use sentences::put_line;
 use states::put_machine;
 use statuses::Goal;
 use statuses::end_status;

@@ -11,7 +11,7 @@ use Rattle.manual.specs.Micro.{exec}
 use Rattle.manual.specs.Outcomes.{machineOf}
 use Rattle.manual.specs.Stepping.{fullMemory}
 use Rattle.manual.specs.Theorems.StepLaws.{step-late}
-use Rattle.dispatch.specs.Steps.{StepsBy, step-by}
+use Rattle.cpu.specs.Steps.{StepsBy, step-by}
 use Rattle.cpu.specs.Travelling.{travelling, travel-end, travel-next, travel-refused}
 use Rattle.cpu.specs.Turning.{raised, raised-quiet}
 use Rattle.cpu.proofs.walk.Statement.{statement}

@@ -3,29 +3,20 @@ use Prim.Native.Nat.{ℕ, _+_, _<_}
 use mathlib.Core.Path.{_≡_, refl}
 use mathlib.Core.Logic.{_↔_}
 use mathlib.Core.Bool.{Bool, true, false, not}
-use mathlib.Core.List.{List, [], _∷_}
+use mathlib.Core.List.{List}
 use native.Mathlib.Omega.{arith}
 use borrow.Author.Tests.{eqb-true, eqb-false, eq-eqb, not-true, not-false}
 use lib.Dec.{T}
 use lib.ListN.{getD}
 use Rattle.registers.specs.declared.Registers.{Registers}
-use Rattle.registers.specs.StatusByte.{pulledStatus}
-use Rattle.registers.specs.State.{setA, setPC, setStatus, setNZ, setC, flags}
 use Rattle.instruction.specs.declared.AddressingMode.{AddressingMode}
 use Rattle.instruction.specs.declared.AddressingMode.the-variants.{Accumulator, Implied, Immediate, ZeroPage, ZeroPageX, ZeroPageY, Relative, Absolute, AbsoluteX, AbsoluteY, BuggyIndirect, IndexedIndirectX, IndirectIndexedY}
-use Rattle.instruction.specs.Opcodes.{rows, decoded}
 use Rattle.manual.specs.declared.Target.{Target}
 use Rattle.manual.specs.Micro.{exec}
 use Rattle.manual.specs.Words.{low, address, page, joined}
-use Rattle.manual.specs.Flags.{shown}
 use Rattle.manual.specs.Addressing.{operand, indexed, target}
-use Rattle.manual.specs.Shifting.{modifiedFlags}
-use Rattle.manual.specs.Interrupts.{idle}
-use Rattle.manual.specs.Instructions.{taken, modify, perform}
-use Rattle.manual.specs.Stepping.{act, attend, stepFull, step}
 use Rattle.manual.specs.Theorems.RegistersInRange.{InRange}
 use Rattle.manual.specs.Theorems.Within.{Bytes}
-use Rattle.manual.specs.Theorems.Examples.{memory, machine}
 
 -- What is said of a target that has an address.
 pub record PutOut (t : Target) : Type 0 where
@@ -110,22 +101,3 @@ none-out AbsoluteY r m t = absurd t
 none-out BuggyIndirect r m t = absurd t
 none-out IndexedIndirectX r m t = absurd t
 none-out IndirectIndexedY r m t = absurd t
-
--- the address that a step puts out first, of a program at 0200 with X and Y
-abbrev firstOf : ℕ → ℕ → List ℕ → ℕ
-firstOf x y bytes = exec (step 65536 idle (machine 0 0x0200 0 x y 0xFF 0x30)) (memory ((0x0200, bytes) ∷ (0x00F0, 0xF0 ∷ 0x10 ∷ []) ∷ [])) .0 .first
-
--- Over a page and not: a read, a store, a modification, a pointer; in the zero page; a jump; an immediate operand, and a byte that is no opcode.
-pub first-examples : firstOf 0x20 0 (0xBD ∷ 0xF0 ∷ 0x10 ∷ [])
-    ∷ firstOf 0x01 0 (0xBD ∷ 0xF0 ∷ 0x10 ∷ [])
-    ∷ firstOf 0x20 0 (0x9D ∷ 0xF0 ∷ 0x10 ∷ [])
-    ∷ firstOf 0x20 0 (0xFE ∷ 0xF0 ∷ 0x10 ∷ [])
-    ∷ firstOf 0 0x20 (0xB1 ∷ 0xF0 ∷ [])
-    ∷ firstOf 0x20 0 (0xB5 ∷ 0xF0 ∷ [])
-    ∷ firstOf 0 0 (0x4C ∷ 0x34 ∷ 0x12 ∷ [])
-    ∷ firstOf 0 0 (0xA9 ∷ 0x05 ∷ [])
-    ∷ firstOf 0 0 (0x02 ∷ [])
-    ∷ []
-    ≡ 0x1010 ∷ 0x10F1 ∷ 0x1010 ∷ 0x1010 ∷ 0x1010 ∷ 0x0010 ∷ 0x1234 ∷ 0 ∷ 0 ∷ []
-unfolding pulledStatus rows decoded setA setPC setStatus setNZ setC flags shown target modifiedFlags taken modify perform act attend stepFull step
-first-examples = refl

@@ -8,7 +8,7 @@ use lib.ListN.{getD, set}
 use Rattle.registers.specs.declared.Registers.{Registers}
 use Rattle.registers.specs.StatusByte.{bit, pushedByte, servedByte, pulledStatus}
 use Rattle.registers.specs.State.{setA, setPC, setStatus, setV, setC, setI, flags}
-use Rattle.instruction.specs.declared.Instruction.the-variants.{Read, Store, Branch, BRK, JMP, JSR, PHA, PHP, PLA, PLP, RTI, RTS}
+use Rattle.instruction.specs.declared.Instruction.the-variants.{Read, Store, Modify, Branch, BRK, JMP, JSR, PHA, PHP, PLA, PLP, RTI, RTS}
 use Rattle.instruction.specs.declared.ReadOperation.{ReadOperation}
 use Rattle.instruction.specs.declared.StoreOperation.{StoreOperation}
 use Rattle.instruction.specs.declared.ModifyOperation.{ModifyOperation}
@@ -17,7 +17,7 @@ use Rattle.instruction.specs.declared.AddressingMode.{AddressingMode}
 use Rattle.instruction.specs.Modes.{operandBytes}
 use Rattle.manual.specs.declared.ArithmeticOutput.{ArithmeticOutput}
 use Rattle.manual.specs.declared.Target.{Target}
-use Rattle.manual.specs.Micro.{Gives}
+use Rattle.manual.specs.Micro.{done, Gives}
 use Rattle.manual.specs.Words.{low, address, page, joined}
 use Rattle.manual.specs.Flags.{shown}
 use Rattle.manual.specs.Decimal.{decimalShown}
@@ -95,13 +95,14 @@ module _ (mode : AddressingMode) (r : Registers) (m : List ℕ) (t : Target) (e 
 
 -- ---- the rest
 
-module _ (mode : AddressingMode) (r : Registers) (m : List ℕ) where
-  pub modify-accumulator-gives : (k : ModifyOperation) → operandBytes mode ≡ 0
-      → Gives (modify k mode r) m
-      (leaves (setA (modified k (r .accumulator) (r .status .carry)) (modifiedFlags k (r .accumulator) (advanced mode r))) 0) m
-  unfolding modify
-  modify-accumulator-gives k e = simp (eq-eqb _ _ e)
+-- with no operand byte nothing is read and nothing stored
+pub modify-accumulator-done : (k : ModifyOperation) (mode : AddressingMode) (r : Registers) → operandBytes mode ≡ 0
+    → perform (Modify k) mode r
+    ≡ done (leaves (setA (modified k (r .accumulator) (r .status .carry)) (modifiedFlags k (r .accumulator) (advanced mode r))) 0)
+unfolding perform modify
+modify-accumulator-done k mode r e = simp (eq-eqb _ _ e)
 
+module _ (mode : AddressingMode) (r : Registers) (m : List ℕ) where
   -- the high byte is what stands there after the pushes
   pub call-gives : {r₁ : Registers} {m₁ : List ℕ} → Gives (pushAddress (operand r 2) r) m r₁ m₁
       → let goal = joined (getD m₁ (operand r 2) 0) (getD m (operand r 1) 0) in Gives (perform JSR mode r) m (leavesAt goal (setPC goal r₁) 0) m₁

@@ -1,45 +1,42 @@
 -- The interrupt lines (P6): when a line is served, what its service leaves, and the way back. What is said of every step stands in the files
 -- beside this one: the answers, the reads and stores, the ranges, demand 3, a run in two parts.
-use Prim.Native.Nat.{ℕ, zero, suc, _+_, _≤_, _<_}
+use Prim.Native.Nat.{ℕ, zero, suc, _+_, _≤_}
 use mathlib.Core.Path.{_≡_, refl, ap, sym, _∙_}
 use mathlib.Core.Bool.{Bool, true, false, not, cond, _&&_}
-use mathlib.Core.List.{List, [], _∷_, map}
+use mathlib.Core.List.{List, [], _∷_}
 use native.Mathlib.Omega.{arith}
 use borrow.Author.Tests.{le-ltb}
 use lib.Dec.{ltb}
 use lib.ListN.{getD, set, length, length-set}
 use lib.Seq.{getD-set-same, getD-set-other}
 use Rattle.registers.specs.declared.Registers.{Registers}
-use Rattle.registers.specs.declared.Status.{Status}
-use Rattle.registers.specs.StatusByte.{statusByte, servedByte, pulledStatus}
+use Rattle.registers.specs.StatusByte.{servedByte}
 use Rattle.registers.specs.RoundTrip.{pulled-pushed}
-use Rattle.registers.specs.State.{registersOf, setS, setPC, setStatus, setI, flags, up, down}
+use Rattle.registers.specs.State.{setS, setPC, setStatus, setI, flags, up, down}
 use Rattle.instruction.specs.declared.Instruction.the-variants.{RTI}
 use Rattle.instruction.specs.declared.AddressingMode.{AddressingMode}
 use Rattle.instruction.specs.declared.Decoded.{Decoded}
 use Rattle.instruction.specs.declared.Decoded.the-variants.{Defined, Undefined}
-use Rattle.instruction.specs.Opcodes.{rows, decoded}
+use Rattle.instruction.specs.Opcodes.{decoded}
 use Rattle.manual.specs.declared.Lines.{Lines}
 use Rattle.manual.specs.declared.Machine.{Machine}
 use Rattle.manual.specs.declared.Due.the-variants.{Through, Quiet}
 use Rattle.manual.specs.declared.Stepped.{Stepped}
 use Rattle.manual.specs.declared.Reason.{Reason}
-use Rattle.manual.specs.declared.Reason.the-variants.{Made, NoCycleRoom}
+use Rattle.manual.specs.declared.Reason.the-variants.{NoCycleRoom}
 use Rattle.manual.specs.Micro.{Micro, done, exec, reads, Gives}
 use Rattle.manual.specs.Words.{low, page, joined}
-use Rattle.manual.specs.Outcomes.{leaves, machineOf, isMade, refused, ended}
+use Rattle.manual.specs.Outcomes.{leaves, machineOf, isMade, refused}
 use Rattle.manual.specs.Stack.{push, pull, pushAddress, pullAddress}
-use Rattle.manual.specs.IndexRegisters.{internal}
-use Rattle.manual.specs.Interrupts.{nmiVector, irqVector, enter, served, idle, falls, calls, due}
+use Rattle.manual.specs.Interrupts.{enter, served, idle, falls, calls, due}
 use Rattle.manual.specs.Instructions.{perform}
-use Rattle.manual.specs.Stepping.{highestCount, act, attend, stepFull, step, runFull, run}
+use Rattle.manual.specs.Stepping.{highestCount, act, attend, stepFull}
 use Rattle.manual.specs.Theorems.Programs.{exec-bind}
 use Rattle.manual.specs.Theorems.StepLaws.{due-none, step-late, step-serves, step-undefined, step-defined}
 use Rattle.manual.specs.Theorems.Answers.{Served, Way, late, serves, undefined, ready, way}
 use Rattle.manual.specs.Theorems.RunAnswers.{Leads}
 use Rattle.manual.specs.Theorems.Reads.{step-full-reads}
 use Rattle.manual.specs.Theorems.RegistersInRange.{InRange}
-use Rattle.manual.specs.Theorems.Examples.{memory, machine, Example, outcome, expected, example, leaving}
 
 -- ---- the last level of NMI
 
@@ -216,63 +213,3 @@ served-first lines s m h = ap (λ (w : Stepped × List ℕ). w .0 .first) (step-
 
 pub served-cycles : (lines : Lines) (s : Machine) (m : List ℕ) → Served lines s → exec (stepFull lines s) m .0 .machine .cycles ≡ s .cycles + 7
 served-cycles lines s m h = ap (λ (w : Stepped × List ℕ). w .0 .machine .cycles) (step-serves lines s m (h .1 .0) (h .0) (h .1 .1) refl)
-
--- ---- examples
-
-abbrev irqLow : Lines
-irqLow = record { irq = false; nmi = true }
-
-abbrev nmiLow : Lines
-nmiLow = record { irq = true; nmi = false }
-
-abbrev bothLow : Lines
-bothLow = record { irq = false; nmi = false }
-
--- the same machine, but NMI was low
-abbrev wasLow : Machine → Machine
-wasLow s = machineOf (s .registers) (s .cycles) false
-
--- NMI leads to 3000 and IRQ to 4000; at 0234 stands a NOP, at 0235 a byte that is no opcode
-abbrev bells : List (ℕ × List ℕ)
-bells = (0xFFFA, 0x00 ∷ 0x30 ∷ []) ∷ (0xFFFE, 0x00 ∷ 0x40 ∷ []) ∷ (0x0234, 0xEA ∷ 0x02 ∷ []) ∷ (0x3000, 0xEA ∷ []) ∷ []
-
-unfoldable pub rung : List (Lines × Example)
-rung =
-    -- IRQ alone: the status goes on the stack with bit 4 clear, I is set and D kept
-    (irqLow, leaving (machine 0 0x0234 0 0 0 0xFF 0x39) bells (machine 7 0x4000 0 0 0 0xFC 0x3D) 0x01FD 0x29)
-    -- the counter is where the way back leads, high byte first
-    ∷ (irqLow, leaving (machine 0 0x0234 0 0 0 0xFF 0x39) bells (machine 7 0x4000 0 0 0 0xFC 0x3D) 0x01FF 0x02)
-    ∷ (irqLow, leaving (machine 0 0x0234 0 0 0 0xFF 0x39) bells (machine 7 0x4000 0 0 0 0xFC 0x3D) 0x01FE 0x34)
-    -- NMI alone, whatever I is
-    ∷ (nmiLow, leaving (machine 0 0x0234 0 0 0 0xFF 0x30) bells (wasLow (machine 7 0x3000 0 0 0 0xFC 0x34)) 0x01FD 0x20)
-    ∷ (nmiLow, leaving (machine 0 0x0234 0 0 0 0xFF 0x34) bells (wasLow (machine 7 0x3000 0 0 0 0xFC 0x34)) 0x01FD 0x24)
-    -- both together: NMI first
-    ∷ (bothLow, leaving (machine 0 0x0234 0 0 0 0xFF 0x30) bells (wasLow (machine 7 0x3000 0 0 0 0xFC 0x34)) 0x01FD 0x20)
-    -- IRQ with I set, NMI low and staying low, idle lines after a low one: the NOP
-    ∷ (irqLow, example (machine 0 0x0234 0 0 0 0xFF 0x34) bells Made (machine 2 0x0235 0 0 0 0xFF 0x34))
-    ∷ (nmiLow, example (wasLow (machine 0 0x0234 0 0 0 0xFF 0x30)) bells Made (wasLow (machine 2 0x0235 0 0 0 0xFF 0x30)))
-    ∷ (idle, example (wasLow (machine 0 0x0234 0 0 0 0xFF 0x30)) bells Made (machine 2 0x0235 0 0 0 0xFF 0x30))
-    -- with S 00 and S 01 the pushes go round in page 01
-    ∷ (irqLow, leaving (machine 0 0x0234 0 0 0 0x00 0x30) bells (machine 7 0x4000 0 0 0 0xFD 0x34) 0x01FE 0x20)
-    ∷ (irqLow, leaving (machine 0 0x0234 0 0 0 0x01 0x30) bells (machine 7 0x4000 0 0 0 0xFE 0x34) 0x01FF 0x20)
-    -- from the count ..608 a line is served; ..609 gives 2, and the last level is kept
-    ∷ (nmiLow, leaving (machine 18446744073709551608 0x0234 0 0 0 0xFF 0x30) bells (wasLow (machine 18446744073709551615 0x3000 0 0 0 0xFC 0x34)) 0x01FD 0x20)
-    ∷ (bothLow, example (machine 18446744073709551609 0x0234 0 0 0 0xFF 0x30) bells NoCycleRoom (machine 18446744073709551609 0x0234 0 0 0 0xFF 0x30))
-    -- a line is served where the byte at the counter is no opcode
-    ∷ (irqLow, leaving (machine 0 0x0235 0 0 0 0xFF 0x30) bells (machine 7 0x4000 0 0 0 0xFC 0x34) 0x01FE 0x35)
-    ∷ []
-
-abbrev outcomeOf : Lines × Example → Reason × Machine × ℕ
-outcomeOf e = outcome (e .0) (e .1)
-
-abbrev expectedOf : Lines × Example → Reason × Machine × ℕ
-expectedOf e = expected (e .1)
-
-pub line-examples : map outcomeOf rung ≡ map expectedOf rung
-unfolding rung pulledStatus statusByte rows decoded setPC setS setStatus setI flags push pushAddress internal served enter perform act attend stepFull step
-line-examples = refl
-
--- Both lines are held low in a run of two steps: NMI is served, and then I is set, so that the instruction at 3000 is carried out.
-pub run-example : exec (run 65536 2 bothLow (machine 0 0x0234 0 0 0 0xFF 0x30)) (memory bells) .0 ≡ ended Made 2 (wasLow (machine 9 0x3001 0 0 0 0xFC 0x34))
-unfolding pulledStatus statusByte rows decoded setPC setS setStatus setI flags push pushAddress internal served enter perform act attend stepFull runFull run
-run-example = refl

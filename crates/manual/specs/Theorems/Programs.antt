@@ -20,6 +20,10 @@ exec-bind (done a) f m = refl
 exec-bind (read q k) f m = exec-bind (k (getD m q 0)) f m
 exec-bind (write q b k) f m = exec-bind k f (set m q b)
 
+-- a program that is done leaves the memory as it is
+pub at-once : {A : Type 0} {p : Micro A} {a : A} (m : List ℕ) → p ≡ done a → Gives p m a m
+at-once m e = ap (λ p. exec p m) e
+
 -- it reads and stores what the first does and then what the second does
 pub accesses-bind : {A B : Type 0} (p : Micro A) (f : A → Micro B) (m : List ℕ)
     → accesses (p >>= f) m ≡ accesses p m ++ accesses (f (exec p m .0)) (exec p m .1)

@@ -4,15 +4,12 @@ use Prim.Native.Nat.{ℕ, zero, suc, _+_, _*_, _/_, _≤_, _<_}
 use mathlib.Core.Path.{_≡_, refl, ap, ap₂, sym, _∙_, subst}
 use mathlib.Core.Logic.{_↔_, _⊎_, ⊎-elim}
 use mathlib.Core.Bool.{Bool, true, false, cond}
-use mathlib.Core.List.{List, [], _∷_, _++_}
+use mathlib.Core.List.{List, [], _++_}
 use native.Mathlib.Omega.{arith}
 use native.Mathlib.Decide.{decLt, ℕ-discrete}
 use borrow.Author.Tests.{le-leb, lt-leb, eq-eqb, ne-eqb}
 use lib.Dec.{eqb, leb}
 use lib.ListN.{length}
-use Rattle.registers.specs.StatusByte.{pulledStatus}
-use Rattle.registers.specs.State.{setS, setPC, setStatus, setI, flags}
-use Rattle.instruction.specs.Opcodes.{rows, decoded}
 use Rattle.instruction.specs.Table.{ruled}
 use Rattle.manual.specs.declared.Lines.{Lines}
 use Rattle.manual.specs.declared.Machine.{Machine}
@@ -20,20 +17,15 @@ use Rattle.manual.specs.declared.Stepped.{Stepped}
 use Rattle.manual.specs.declared.Ended.{Ended}
 use Rattle.manual.specs.declared.Reason.{Reason}
 use Rattle.manual.specs.declared.Reason.the-variants.{Made, MemoryNotFull, NoCycleRoom, NotAnOpcode, BoundTooHigh}
-use Rattle.manual.specs.Micro.{Micro, done, exec, Access, accesses, readsOf, storesOf, reads, stores, _>>=_, Gives}
+use Rattle.manual.specs.Micro.{Micro, done, exec, Access, accesses, reads, stores, _>>=_, Gives}
 use Rattle.manual.specs.Outcomes.{isMade, refused, ended}
-use Rattle.manual.specs.IndexRegisters.{internal}
-use Rattle.manual.specs.Stack.{push, pushAddress}
-use Rattle.manual.specs.Interrupts.{enter, idle}
-use Rattle.manual.specs.Instructions.{perform}
-use Rattle.manual.specs.Stepping.{fullMemory, highestBound, act, attend, stepFull, runFull, run}
+use Rattle.manual.specs.Stepping.{fullMemory, highestBound, stepFull, runFull, run}
 use Rattle.manual.specs.Spending.{spendFull, runCycles, listedSpendFull, listedRunCycles}
-use Rattle.manual.specs.Theorems.Programs.{_∈_, exec-bind, accesses-bind, reads-bind, either, alike, exec-then}
+use Rattle.manual.specs.Theorems.Programs.{exec-bind, accesses-bind, reads-bind, either, alike, exec-then}
 use Rattle.manual.specs.Theorems.StepLaws.{opcodeOf, step-late, step-serves, step-undefined, step-defined, run-whole, not-made}
 use Rattle.manual.specs.Theorems.Answers.{NoRoom, NoOpcode, Way, late, serves, undefined, ready, way}
 use Rattle.manual.specs.Theorems.RunAnswers.{Leads, Allowed, same}
 use Rattle.manual.specs.Theorems.Extra.{extra-of}
-use Rattle.manual.specs.Theorems.Examples.{Laid, machine, memory}
 use Rattle.manual.specs.Theorems.Reads.{step-full-reads}
 use Rattle.manual.specs.Theorems.Sealed.{Differ, Unsealed, Kept, sealed}
 use Rattle.manual.specs.Theorems.Within.{Bytes, InMemory}
@@ -528,17 +520,3 @@ module _ (lines : Lines) (s : Machine) (m : List ℕ) where
   pub limit-0-reads : reads (runCycles 65536 0 lines s) m ≡ []
   unfolding runCycles spendFull accesses
   limit-0-reads = refl
-
--- what is spent and made from a count of 0, with idle lines and the registers of a report
-abbrev spentAndMade : ℕ → List Laid → ℕ × ℕ
-spentAndMade limit bytes =
-    let w = exec (runCycles 65536 limit idle (machine 0 0x0200 0 0 0 0xFF 0x34)) (memory bytes) in (w .0 .machine .cycles, w .0 .steps)
-
--- Both bounds are reached: BRK takes 7 cycles, one of them the only one that was left; NOP takes 2.
-pub cycles-reached : (spentAndMade 1 [] ≡ (1 + 6, 1)) × (spentAndMade 8 [] ≡ (8 + 6, 2))
-unfolding pulledStatus rows decoded setS setPC setStatus setI flags push pushAddress enter perform act attend stepFull spendFull runCycles
-cycles-reached = (refl, refl)
-
-pub steps-reached : (spentAndMade 3 ((0x0200, 0xEA ∷ 0xEA ∷ 0xEA ∷ []) ∷ []) ≡ (4, (3 + 1) / 2)) × (spentAndMade 4 ((0x0200, 0xEA ∷ 0xEA ∷ 0xEA ∷ []) ∷ []) ≡ (4, (4 + 1) / 2))
-unfolding pulledStatus rows decoded setPC setStatus internal perform act attend stepFull spendFull runCycles
-steps-reached = (refl, refl)

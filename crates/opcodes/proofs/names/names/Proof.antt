@@ -1,6 +1,6 @@
 -- The constant's names are the definition's, by computation.
 use mathlib.Core.Path.{refl}
-use Rattle.opcodes.specs.Operations.{operations}
+use Rattle.meaning.specs.Operations.{operations}
 use Rattle.opcodes.specs.Names.{mnemonic}
 use Rattle.opcodes.specs.NameTable.{names}
 use Rattle.opcodes.proofs.names.names.Statement.{statement}

@@ -1,0 +1,6 @@
+// How a run ended, as text: its line, and a sentence.
+mod line; // line.rt: the line
+mod sentence; // sentence.rt: the sentence
+
+pub use line::put_line;
+pub use sentence::put_sentence;

@@ -1,0 +1,107 @@
+// How a run ended, in words.
+ghost use Prim.Native.Nat.{_+_, _≤_};
+ghost use Rattle.text.specs.Written.{Wrote};
+ghost use Rattle.sentences.specs.Sentence.{stop, running, meaning, allMade, endedAt, done, sentence};
+use manual::Ended;
+use manual::Reason;
+use memory::Address;
+use memory::peek;
+use statuses::Goal;
+use statuses::reached;
+use text::put_decimal;
+use text::put_hex2;
+use text::put_hex4;
+use text::put_text;
+
+fn put_stop(out: &mut [u8], at: usize, byte: u8, counter: u16) -> usize
+    ensures { λ r. ⌜ Wrote (now (out .entry)) at (stop byte counter) (now (out .exit)) r ⌝ }
+{
+    let after_stopped = put_text(out, at, b"stopped: the byte ");
+    let after_byte = put_hex2(out, after_stopped, byte);
+    let after_at = put_text(out, after_byte, b" at ");
+    let after_counter = put_hex4(out, after_at, counter);
+    put_text(out, after_counter, b" is no documented opcode\n")
+}
+
+fn put_running(out: &mut [u8], at: usize, steps: u64) -> usize
+    ensures { λ r. ⌜ Wrote (now (out .entry)) at (running steps) (now (out .exit)) r ⌝ }
+    ensures { λ r. ⌜ r ≤ at + 80 ⌝ }
+{
+    let after_running = put_text(
+        out,
+        at,
+        b"not finished: the program was still running after ",
+    );
+    let after_steps = put_decimal(out, after_running, steps);
+    put_text(out, after_steps, b" steps\n")
+}
+
+fn put_meaning(
+    out: &mut [u8],
+    at: usize,
+    reason: Reason,
+    steps: u64,
+    counter: u16,
+    byte: u8,
+) -> usize
+    ensures { λ r. ⌜ Wrote (now (out .entry)) at (meaning reason steps counter byte) (now (out .exit)) r ⌝ }
+    ensures { λ r. ⌜ r ≤ at + 80 ⌝ }
+{
+    match reason {
+        Reason::Made => put_running(out, at, steps),
+        Reason::MemoryNotFull => put_text(out, at, b"refused: the image is not 65536 bytes long\n"),
+        Reason::NoCycleRoom => put_text(
+            out,
+            at,
+            b"stopped: the cycle count has no room for another step\n",
+        ),
+        Reason::NotAnOpcode => put_stop(out, at, byte, counter),
+        Reason::BoundTooHigh => put_text(
+            out,
+            at,
+            b"refused: more than 1000000 steps were asked for\n",
+        ),
+    }
+}
+
+fn put_all_made(out: &mut [u8], at: usize, steps: u64) -> usize
+    ensures { λ r. ⌜ Wrote (now (out .entry)) at (allMade steps) (now (out .exit)) r ⌝ }
+    ensures { λ r. ⌜ r ≤ at + 80 ⌝ }
+{
+    let after_done = put_text(out, at, b"done: all ");
+    let after_steps = put_decimal(out, after_done, steps);
+    put_text(out, after_steps, b" steps were made\n")
+}
+
+fn put_ended_at(out: &mut [u8], at: usize, counter: u16) -> usize
+    ensures { λ r. ⌜ Wrote (now (out .entry)) at (endedAt counter) (now (out .exit)) r ⌝ }
+{
+    let after_done = put_text(out, at, b"done: it ended at ");
+    let after_counter = put_hex4(out, after_done, counter);
+    put_text(out, after_counter, b", as it was meant to\n")
+}
+
+fn put_done(out: &mut [u8], at: usize, reason: Reason, steps: u64, counter: u16) -> usize
+    ensures { λ r. ⌜ Wrote (now (out .entry)) at (done reason steps counter) (now (out .exit)) r ⌝ }
+    ensures { λ r. ⌜ r ≤ at + 80 ⌝ }
+{
+    if reason.is_made() {
+        return put_all_made(out, at, steps);
+    }
+    put_ended_at(out, at, counter)
+}
+
+// Writes the sentence. `image` is the one that the run left: it may have changed the byte that stopped it.
+pub fn put_sentence(out: &mut [u8], at: usize, goal: Goal, ended: Ended, image: &[u8]) -> usize
+    ensures { λ r. ⌜ Wrote (now (out .entry)) at (sentence goal ended (now (image .entry))) (now (out .exit)) r ⌝ }
+    ensures { λ r. ⌜ r ≤ at + 80 ⌝ }
+{
+    let reason = ended.reason;
+    let steps = ended.steps;
+    let counter = ended.machine.registers.counter;
+    if reached(goal, ended) {
+        return put_done(out, at, reason, steps, counter);
+    }
+    let byte = peek(image, Address(counter));
+    put_meaning(out, at, reason, steps, counter, byte)
+}
