@@ -2,11 +2,12 @@
 use Prim.Native.Nat.{ℕ, zero, suc, _+_, _≤_, _<_, _^_}
 use mathlib.Core.Path.{_≡_, refl, ap, sym, _∙_}
 use mathlib.Core.Bool.{Bool, true, false, cond}
-use mathlib.Core.List.{List, [], _∷_}
+use mathlib.Core.List.{List, [], _∷_, _++_}
 use native.Mathlib.Nat.{add-zero}
 use native.Mathlib.Decide.{decLt}
 use native.Mathlib.Omega.{arith}
 use borrow.Author.Tests.{eq-eqb, ne-eqb, le-leb, lt-leb}
+use lib.Dec.{lit≤}
 use lib.ListN.{length, length-append, getD, set}
 use lib.Seq.{ext-getD, getD-set-same, getD-set-other}
 use Rattle.manual.specs.declared.Lines.{Lines}
@@ -14,7 +15,8 @@ use Rattle.manual.specs.declared.Machine.{Machine}
 use Rattle.manual.specs.declared.Reason.the-variants.{MemoryNotFull}
 use Rattle.manual.specs.Interrupts.{idle}
 use Rattle.manual.specs.Stepping.{fullMemory}
-use Rattle.text.specs.Laws.{decimal-length}
+use Rattle.text.specs.Numerals.{digit, decimal}
+use Rattle.text.specs.Laws.{decimal-more, decimal-length}
 use Rattle.states.specs.Fields.{machineFields}
 use Rattle.reporting.specs.Report.{imageStart}
 use Rattle.witness.specs.declared.Halt.{Halt}
@@ -126,5 +128,13 @@ halt-fits h s k =
 pub unread-fits : (first last steps : ℕ) → steps < 2 ^ 64 → length (unread first last steps) ≤ 96
 unread-fits first last steps h = simp length-append (omega (arith, decimal-length 19 steps (omega arith)))
 
+-- the number after the last count of 64 bits, its last digit by itself
+last-digit : decimal 18446744073709551616 ≡ decimal 1844674407370955161 ++ 54 ∷ []
+unfolding digit
+last-digit = decimal-more 18446744073709551616 (lit≤ tt)
+
+pub after-last : (count : ℕ) → count ≡ 18446744073709551615 → decimal (count + 1) ≡ decimal 1844674407370955161 ++ 54 ∷ []
+after-last count e = ap (λ (n : ℕ). decimal (n + 1)) e ∙ last-digit
+
 pub would-fits : (steps place : ℕ) → steps < 2 ^ 64 → length (would steps place) ≤ 96
-would-fits steps place h = simp length-append (omega (arith, decimal-length 19 steps (omega arith)))
+would-fits steps place h = simp length-append (omega (arith, decimal-length 19 (steps + 1) (omega arith)))

@@ -1,5 +1,5 @@
 -- The status, the line and the sentence of a watched run of an image.
-use Prim.Native.Nat.{ℕ}
+use Prim.Native.Nat.{ℕ, _+_}
 use mathlib.Core.List.{List, _++_}
 use Rattle.laws.specs.Characters.{characters}
 use Rattle.text.specs.Numerals.{decimal, spaced, hex4}
@@ -27,7 +27,8 @@ unread first last steps =
     characters "no byte from " ++ hex4 first ++ characters " to " ++ hex4 last ++ characters " was read in " ++ decimal steps ++ characters " steps\n"
 
 abbrev pub would : ℕ → ℕ → List ℕ
-would steps place = characters "halted after " ++ decimal steps ++ characters " steps: the next would read the sealed byte at " ++ hex4 place ++ characters "\n"
+would steps place =
+    characters "halted before step " ++ decimal (steps + 1) ++ characters ": it would read the sealed byte at " ++ hex4 place ++ characters "\n"
 
 abbrev pub oathText : ℕ → ℕ → Watched → List ℕ
 oathText first last (Watched.Ran q) = unread first last (q .steps)

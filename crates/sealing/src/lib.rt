@@ -4,6 +4,7 @@ ghost use mathlib.Core.Path.{_≡_};
 ghost use lib.ListN.{length};
 ghost use Rattle.manual.specs.Stepping.{fullMemory};
 ghost use Rattle.witness.specs.Guarded.{inStretch};
+ghost use Rattle.text.specs.Numerals.{decimal};
 ghost use Rattle.text.specs.Written.{Wrote};
 ghost use Rattle.sealing.specs.Extract.{blanked, extract};
 ghost use Rattle.sealing.specs.Words.{sealedStatus, haltLine, sealedLine, unread, would, oathText};
@@ -100,18 +101,25 @@ fn put_unread(out: &mut [u8], at: usize, first: u16, last: u16, steps: u64) -> u
     put_text(out, after_steps, b" steps\n")
 }
 
+// The number after a count; after the last count of 64 bits it does not fit, and its last digit is written by itself.
+fn put_next(out: &mut [u8], at: usize, count: u64) -> usize
+    ensures { λ r. ⌜ Wrote (now (out .entry)) at (decimal (count + 1)) (now (out .exit)) r ⌝ }
+{
+    if count == 18446744073709551615 {
+        let after_tens = put_decimal(out, at, 1844674407370955161);
+        return put_byte(out, after_tens, b'6');
+    }
+    put_decimal(out, at, count + 1)
+}
+
 // One would be.
 fn put_would(out: &mut [u8], at: usize, steps: u64, place: u16) -> usize
     ensures { λ r. ⌜ Wrote (now (out .entry)) at (would steps place) (now (out .exit)) r ⌝ }
     ensures { λ r. ⌜ r ≤ at + 96 ⌝ }
 {
-    let after_halted = put_text(out, at, b"halted after ");
-    let after_steps = put_decimal(out, after_halted, steps);
-    let after_would = put_text(
-        out,
-        after_steps,
-        b" steps: the next would read the sealed byte at ",
-    );
+    let after_halted = put_text(out, at, b"halted before step ");
+    let after_step = put_next(out, after_halted, steps);
+    let after_would = put_text(out, after_step, b": it would read the sealed byte at ");
     let after_place = put_hex4(out, after_would, place);
     put_byte(out, after_place, b'\n')
 }

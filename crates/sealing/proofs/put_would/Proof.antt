@@ -9,7 +9,7 @@ use Rattle.sealing.proofs.put_would.Tie as tie
 returns : tie.Need-returns
 returns c =
     let s = c .before .before .before .before .before .before .before .before .before .before .before .before .before .before .before .before .before .before .before .before .before .before .before in
-    let after = then (c .before .before .before .before .before .before .before .before .before .before .before .before .before .before .before .before .before .before .before .put-text .ensures) (c .before .before .before .before .before .before .before .before .before .before .before .before .before .before .before .put-decimal .ensures) in
+    let after = then (c .before .before .before .before .before .before .before .before .before .before .before .before .before .before .before .before .before .before .before .put-text .ensures) (c .before .before .before .before .before .before .before .before .before .before .before .before .before .before .before .put-next .ensures) in
     let wrote = then (then (then after (c .before .before .before .before .before .before .before .before .before .before .put-text2 .ensures)) (c .before .before .before .before .before .before .put-hex4 .ensures)) (c .before .before .put-byte .ensures) in
     (wrote, within wrote (would-fits (s .args .steps) (s .args .place) (omega (arith, s))))
 
