@@ -91,10 +91,9 @@ find_archive() {
     [ -f "$archive" ] || stop 2 "there is no archive $archive"
 }
 
-# build_port OPTION...: and the Rust crate around it.
 build_port() {
     find_archive
-    rust libsaxundeer.rlib host/saxundeer/src/lib.rs --crate-type rlib --crate-name saxundeer "$@"
+    rust libsaxundeer.rlib host/saxundeer/src/lib.rs --crate-type rlib --crate-name saxundeer
 }
 
 # program NAME OPTION...: one of the programs that run both cores.
