@@ -30,7 +30,8 @@
 //!
 //! It is not the part's bus. The limits:
 //!
-//! - a device is asked before the step and told after it, not in the cycle in which the part would;
+//! - a device is asked before the step and told after it, not in the cycle in which the part would. So it is asked first also
+//!   where the part stores first, as BRK and a line that is served do before they read their vector;
 //! - an address that a step reads twice is asked once, and the step reads the same byte both times;
 //! - the reads of the part whose byte it does not use are not asked;
 //! - an instruction that reads, changes and stores (INC, ASL ..) reads once and stores once, where the part stores twice, first
