@@ -11,11 +11,12 @@ use oracle::loops;
 /// The functions besides the exported ones: the loop with all that a step does in it.
 const MOST_FUNCTIONS: usize = 1;
 /// The host's instructions a step, by loop and by way: about a fifth above what was counted when they were set. What is
-/// to be noticed costs a factor of two or more.
-const MOST_INSTRUCTIONS: [[f64; 4]; 3] = [
-    [49.0, 49.0, 220.0, 281.0],
-    [65.0, 65.0, 236.0, 297.0],
-    [45.0, 45.0, 217.0, 278.0],
+/// to be noticed costs a factor of two or more. That of the watched run is another: four times what was counted for a run,
+/// since a quarter of a run's rate is asked of it.
+const MOST_INSTRUCTIONS: [[f64; 5]; 3] = [
+    [49.0, 49.0, 220.0, 281.0, 162.0],
+    [65.0, 65.0, 236.0, 297.0, 216.0],
+    [45.0, 45.0, 217.0, 278.0, 151.0],
 ];
 /// The difference of the two leaves out what happens before and after the steps.
 const STEPS: [u64; 2] = [20_000, 120_000];

@@ -25,6 +25,10 @@ const ROUNDS: usize = 25;
 const GROWTH_ROUNDS: usize = 3;
 /// The Rust's two builds, then the port's ways.
 const COLUMNS: usize = 2 + ways::ALL.len();
+/// The columns of a run and of the watched run, and the part of the one's rate that is asked of the other.
+const RUN: usize = 2;
+const WATCHED: usize = COLUMNS - 1;
+const LEAST_WATCHED: f64 = 0.25;
 
 unsafe extern "C" {
     /// The same loop as `time_rust`, built with lto=fat: see fat.rs.
@@ -112,6 +116,13 @@ fn measure() -> Result<(), String> {
                 .concat()
         );
     }
+    print!("watched / run:");
+    for (program, best) in loops.iter().zip(&best) {
+        let part = best[RUN].as_secs_f64() / best[WATCHED].as_secs_f64();
+        let mark = if part < LEAST_WATCHED { "!" } else { "" };
+        print!(" {} {part:.3}{mark};", program.name);
+    }
+    println!(" at least {LEAST_WATCHED} is asked for, and ! marks less.");
     println!(
         "{STEPS} steps a run, the best of {ROUNDS} runs by processor time; the end states were equal after each."
     );

@@ -15,6 +15,7 @@ for argument in "$@"; do
     *) set -- "$@" "$argument" ;;
     esac
 done
+given=$archive
 cd "$(dirname "$0")/.." || exit 2
 
 # A program for another machine takes that machine's C compiler, which links too, and an emulator to run it.
@@ -113,6 +114,21 @@ build_tapes() {
     fi
     [ -f "$tapes" ] || stop 2 "there is no archive $tapes"
     rust tapes host/tapes.rs --extern oracle="$out/liboracle.rlib" -C link-arg="$tapes"
+}
+
+# find_watch: sets `watch` to the archive of the watched run. It is proved and built like the port's, or stands beside that
+# where one is given.
+find_watch() {
+    if [ -n "$given" ]; then
+        watch=$(dirname "$given")/libwatch_c.a
+    elif [ "$machine" = x86_64 ]; then
+        watch=target/staticlib/libwatch_c.a
+        renew "$watch" 'rt staticlib watch_c'
+    else
+        watch=$out/libwatch_c.a
+        renew "$watch" 'host/native-archive watch_c'
+    fi
+    [ -f "$watch" ] || stop 2 "there is no archive $watch"
 }
 
 # What the archive is: it names the logic that proved it, and only rt writes that mark.

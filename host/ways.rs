@@ -33,6 +33,17 @@ unsafe extern "C" {
         memory: *mut u8,
         length: usize,
     ) -> u8;
+    fn mos6502_watched_run(
+        registers: *mut u64,
+        cycles: *mut u64,
+        steps: *mut u64,
+        place: *mut u16,
+        bound: u64,
+        lines: u8,
+        pages: *const [u8; 256],
+        memory: *mut u8,
+        length: usize,
+    ) -> u8;
 }
 
 /// Both lines high, as the C functions have it.
@@ -42,12 +53,16 @@ const IDLE: u8 = 0;
 pub type Way = fn(&mut [u8], u64) -> Result<State, String>;
 
 /// In the order of the columns, with their heads.
-pub const ALL: [(&str, Way); 4] = [
+pub const ALL: [(&str, Way); 5] = [
     ("run", by_run),
     ("cycles", by_cycles),
     ("step", by_step),
     ("crate", by_crate),
+    ("watched", by_watched_run),
 ];
+
+/// A page that no loop reads: the watched run has it sealed.
+const SEALED_PAGE: usize = 0xF0;
 
 /// The state after the numbers that the C functions take.
 fn state_of_numbers(registers: u64, cycles: u64) -> State {
@@ -165,4 +180,36 @@ pub fn by_crate(memory: &mut [u8], steps: u64) -> Result<State, String> {
         }
     }
     Ok(state_of(&machine))
+}
+
+/// By `mos6502_watched_run`, a million steps a call.
+pub fn by_watched_run(memory: &mut [u8], steps: u64) -> Result<State, String> {
+    let (mut registers, mut cycles, mut made) = (start(), loops::START.cycles, 0);
+    let mut pages = [0; 256];
+    pages[SEALED_PAGE] = 1;
+    while made < steps {
+        let bound = HIGHEST_BOUND.min(steps - made);
+        let (mut part, mut place) = (0, 0);
+        // Sound: as above, and the map is this function's own.
+        let answer = unsafe {
+            mos6502_watched_run(
+                &mut registers,
+                &mut cycles,
+                &mut part,
+                &mut place,
+                bound,
+                IDLE,
+                &pages,
+                memory.as_mut_ptr(),
+                memory.len(),
+            )
+        };
+        if answer != 0 {
+            return Err(format!(
+                "mos6502_watched_run answered {answer} after {made} steps"
+            ));
+        }
+        made += part;
+    }
+    Ok(state_of_numbers(registers, cycles))
 }

@@ -26,7 +26,8 @@ use Rattle.cpu.specs.declared.Travelled.{Travelled}
 use Rattle.cpu.specs.Travelling.{travelled, travelling, travel-run}
 use Rattle.cpu.specs.Turning.{levelled, turning, settles, settled, turned, one-step, turn-step}
 use Rattle.cycles.specs.Lifting.{lift, lifted, lowered, lifted-least, lifted-spent, lifted-unspent}
-use Rattle.mos6502.specs.Numbers.{machineFrom, linesFrom, registersAfter, cyclesAfter, StepNumbers, RunNumbers, TurnNumbers, stepNumbers, runNumbers, turnNumbers, stepOnNumbers, runOnNumbers, longRunOnNumbers, runCyclesOnNumbers, runFullOnNumbers, turnOnNumbers}
+use Rattle.numbers.specs.Machines.{machineFrom, linesFrom, registersAfter, cyclesAfter}
+use Rattle.mos6502.specs.Numbers.{StepNumbers, RunNumbers, TurnNumbers, stepNumbers, runNumbers, turnNumbers, stepOnNumbers, runOnNumbers, longRunOnNumbers, runCyclesOnNumbers, runFullOnNumbers, turnOnNumbers}
 
 -- a run of one has made a step exactly where it answers so
 one-made : {lines : Lines} {s : Machine} {m : List ℕ} {q : Ended} {m′ : List ℕ} → Ends 1 lines s m q m′ → isMade (q .reason) ≡ ltb 0 (q .steps)

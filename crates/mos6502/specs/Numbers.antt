@@ -1,33 +1,15 @@
 -- The core on numbers: a step and a run on the registers as one number, with the levels of the lines as another.
 use Prim.Native.Nat.{ℕ}
-use mathlib.Core.Bool.{Bool, not, cond}
 use lib.Dec.{ltb}
-use Rattle.registers.specs.StatusByte.{bitAt}
-use Rattle.packing.specs.Packed.{packed, unpacked, unpackedNmi}
-use Rattle.manual.specs.declared.Lines.{Lines}
-use Rattle.manual.specs.declared.Machine.{Machine}
 use Rattle.manual.specs.declared.Stepped.{Stepped}
 use Rattle.manual.specs.declared.Ended.{Ended}
 use Rattle.manual.specs.Micro.{Micro, done, _>>=_}
-use Rattle.manual.specs.Outcomes.{machineOf, number, isMade}
+use Rattle.manual.specs.Outcomes.{number, isMade}
 use Rattle.manual.specs.Stepping.{step, runFull, run, longRun}
 use Rattle.manual.specs.Spending.{runCycles}
+use Rattle.numbers.specs.Machines.{machineFrom, linesFrom, registersAfter, cyclesAfter}
 use Rattle.cpu.specs.declared.Travelled.{Travelled}
 use Rattle.cpu.specs.Turning.{turning}
-
-abbrev pub machineFrom : ℕ → ℕ → Machine
-machineFrom registers cycles = machineOf (unpacked registers) cycles (unpackedNmi registers)
-
--- bit 0 is set where NMI is low, bit 1 where IRQ is: 0 for idle lines
-abbrev pub linesFrom : ℕ → Lines
-linesFrom lines = record { irq = not (bitAt 1 lines); nmi = not (bitAt 0 lines) }
-
--- the two numbers are the machine's where a step was made, and otherwise as they were given
-abbrev pub registersAfter : Bool → Machine → ℕ → ℕ
-registersAfter made s registers = cond made (packed (s .registers) (s .nmi)) registers
-
-abbrev pub cyclesAfter : Bool → Machine → ℕ → ℕ
-cyclesAfter made s cycles = cond made (s .cycles) cycles
 
 -- what comes back of a step: the answer, the address that it put out first, and the two numbers after it
 pub record StepNumbers : Type 0 where

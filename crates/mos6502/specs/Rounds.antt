@@ -16,7 +16,8 @@ use Rattle.manual.specs.Theorems.StepLaws.{run-end}
 use Rattle.manual.specs.Theorems.Lunch.{added}
 use Rattle.cpu.specs.declared.Travelled.{Travelled}
 use Rattle.cpu.specs.Turning.{reach, turning, settled, turn-few, turn-stops, turn-goes, added-none, added-twice}
-use Rattle.mos6502.specs.Numbers.{machineFrom, linesFrom, TurnNumbers, turnNumbers, turnOnNumbers, runFullOnNumbers}
+use Rattle.numbers.specs.Machines.{machineFrom, linesFrom}
+use Rattle.mos6502.specs.Numbers.{TurnNumbers, turnNumbers, turnOnNumbers, runFullOnNumbers}
 use Rattle.mos6502.specs.Laws.{zero-made, other-refused, numberOf, countOf, onward, turn-of, run-gives}
 
 -- Of a run of `bound` steps `total` are made: what is left of it goes on from the numbers, which are as they were given where none is.

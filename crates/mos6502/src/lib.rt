@@ -1,6 +1,6 @@
 // The core on numbers, for a host in C or Rust: see host/mos6502.h.
 ghost use mathlib.Core.Path.{_≡_};
-ghost use mathlib.Core.Bool.{true, cond};
+ghost use mathlib.Core.Bool.{true};
 ghost use lib.ListN.{length};
 ghost use Rattle.registers.specs.State.{registersOf};
 ghost use Rattle.registers.specs.StatusByte.{bit, pushedByte, pulledStatus};
@@ -8,15 +8,17 @@ ghost use Rattle.packing.specs.Packed.{packed, unpacked, unpackedNmi};
 ghost use Rattle.manual.specs.Stepping.{fullMemory};
 ghost use Rattle.manual.specs.Micro.{exec, Gives};
 ghost use Rattle.cpu.specs.Turning.{Calm, turning, settled};
-ghost use Rattle.mos6502.specs.Numbers.{machineFrom, linesFrom, registersAfter, cyclesAfter, stepOnNumbers, runOnNumbers, longRunOnNumbers, runCyclesOnNumbers, runFullOnNumbers, turnOnNumbers};
+ghost use Rattle.numbers.specs.Machines.{machineFrom, linesFrom};
+ghost use Rattle.mos6502.specs.Numbers.{stepOnNumbers, runOnNumbers, longRunOnNumbers, runCyclesOnNumbers, runFullOnNumbers, turnOnNumbers};
 use cpu::reach;
 use cpu::turn;
 use cycles::lift;
 use cycles::spent;
 use manual::FULL_MEMORY;
 use manual::HIGHEST_BOUND;
-use manual::Lines;
-use manual::Machine;
+use numbers::hand_back;
+use numbers::lines_from;
+use numbers::machine_from;
 use packing::pack;
 use packing::unpack;
 use packing::unpack_nmi;
@@ -96,37 +98,6 @@ pub extern "C" fn mos6502_nmi(registers: u64) -> u8
     ensures { λ r. ⌜ r ≡ bit (unpackedNmi registers) ⌝ }
 {
     flag(unpack_nmi(registers))
-}
-
-// The machine of a number and a cycle count.
-fn machine_from(registers: u64, cycles: u64) -> Machine
-    ensures { λ r. ⌜ r ≡ machineFrom registers cycles ⌝ }
-{
-    Machine::new(unpack(registers), cycles, unpack_nmi(registers))
-}
-
-// The levels of the lines: bit 0 is set where NMI is low, bit 1 where IRQ is, and the others do not matter.
-fn lines_from(lines: u8) -> Lines
-    ensures { λ r. ⌜ r ≡ linesFrom lines ⌝ }
-{
-    Lines {
-        irq: lines / 2 % 2 != 1,
-        nmi: lines % 2 != 1,
-    }
-}
-
-// The machine as the two numbers, where a step was made.
-fn hand_back(made: bool, machine: Machine, registers: &mut u64, cycles: &mut u64)
-    ensures { λ r. ⌜ now (registers .exit) ≡ registersAfter made machine (now (registers .entry)) ⌝ }
-    ensures { λ r. ⌜ now (cycles .exit) ≡ cyclesAfter made machine (now (cycles .entry)) ⌝ }
-    ensures { λ r.
-        ⌜ machineFrom (now (registers .exit)) (now (cycles .exit)) ≡ cond made machine (machineFrom (now (registers .entry)) (now (cycles .entry))) ⌝ }
-{
-    if made {
-        let after = machine.registers;
-        *registers = pack(after, machine.nmi);
-        *cycles = machine.cycles;
-    }
 }
 
 // A turn on numbers. The functions below call this one, and it alone calls `turn`: so the compiler makes one function of the

@@ -9,6 +9,7 @@ use Rattle.manual.specs.declared.Lines.{Lines}
 use Rattle.manual.specs.declared.Machine.{Machine}
 use Rattle.manual.specs.declared.Stepped.{Stepped}
 use Rattle.manual.specs.Outcomes.{machineOf, number}
+use Rattle.numbers.specs.Machines.{linesFrom}
 use Rattle.vectors.specs.declared.State.{State}
 use Rattle.replay.specs.declared.compare.Verdict.{Verdict}
 use Rattle.replay.specs.SameBytes.{sameBytes}
@@ -19,9 +20,8 @@ machineAt s =
     machineOf (registersOf (s .accumulator) (s .x) (s .y) (s .stack) (s .counter) (pulledStatus (s .status))) (s .cycles)
     (not (bitAt 2 (s .levels)))
 
--- bit 0 is set where NMI is low, bit 1 where IRQ is
 abbrev pub linesAt : State → Lines
-linesAt s = record { irq = not (bitAt 1 (s .levels)); nmi = not (bitAt 0 (s .levels)) }
+linesAt s = linesFrom (s .levels)
 
 -- the three levels as a line has them
 unfoldable pub levelsByte : Lines → Bool → ℕ

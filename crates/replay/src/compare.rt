@@ -7,6 +7,7 @@ ghost use Rattle.replay.specs.Comparison.{machineAt, linesAt, levelsByte
 use desk::step_by_record;
 use manual::Lines;
 use manual::Machine;
+use numbers::lines_from;
 use registers::Registers;
 use registers::Status;
 use registers::flag;
@@ -48,10 +49,7 @@ fn machine_at(state: State) -> Machine
 fn lines_at(state: State) -> Lines
     ensures { λ r. ⌜ r ≡ linesAt state ⌝ }
 {
-    Lines {
-        irq: state.levels / 2 % 2 != 1,
-        nmi: state.levels % 2 != 1,
-    }
+    lines_from(state.levels)
 }
 
 // The levels as a line has them: the present ones, and the last one of NMI.

@@ -43,16 +43,22 @@
 #[cfg(test)]
 extern crate std;
 
+#[cfg(feature = "watch")]
+pub mod devices;
 mod functions;
 mod lines;
 mod registers;
 mod run_to;
 #[cfg(feature = "tapes")]
 pub mod tapes;
-#[cfg(feature = "traces")]
-pub mod traces;
 #[cfg(test)]
 mod tests;
+#[cfg(feature = "traces")]
+pub mod traces;
+#[cfg(feature = "watch")]
+pub mod watch;
+#[cfg(all(test, feature = "watch"))]
+mod watch_tests;
 
 use functions::RunFunction;
 

@@ -4,7 +4,7 @@ use std::vec::Vec;
 use super::functions::*;
 use super::*;
 
-fn start() -> Machine {
+pub(super) fn start() -> Machine {
     let registers = Registers {
         stack_pointer: StackPointer(0xFF),
         program_counter: 0x0200,
@@ -18,7 +18,7 @@ fn start() -> Machine {
 }
 
 /// A full memory, zero but for these bytes from 0200 on.
-fn memory_with(code: &[u8]) -> Vec<u8> {
+pub(super) fn memory_with(code: &[u8]) -> Vec<u8> {
     let mut memory = vec![0; MEMORY_SIZE];
     memory[0x0200..0x0200 + code.len()].copy_from_slice(code);
     memory

@@ -8,7 +8,7 @@ use Rattle.manual.specs.declared.Lines.{Lines}
 use Rattle.manual.specs.Micro.{Gives}
 use Rattle.cpu.specs.declared.Travelled.{Travelled}
 use Rattle.cpu.specs.Turning.{Calm, turning, settled}
-use Rattle.mos6502.specs.Numbers.{machineFrom, linesFrom}
+use Rattle.numbers.specs.Machines.{machineFrom, linesFrom}
 use Rattle.mos6502.specs.Laws.{turn-gives}
 use Rattle.mos6502.proofs.advance.Statement.{statement}
 use Rattle.mos6502.proofs.advance.Tie as tie

@@ -10,7 +10,8 @@ use Rattle.manual.specs.declared.Lines.{Lines}
 use Rattle.manual.specs.Micro.{exec, Gives}
 use Rattle.manual.specs.Stepping.{fullMemory}
 use Rattle.cpu.specs.Turning.{Calm, reach, turning, settled, reach-calm}
-use Rattle.mos6502.specs.Numbers.{machineFrom, linesFrom, TurnNumbers, turnOnNumbers}
+use Rattle.numbers.specs.Machines.{machineFrom, linesFrom}
+use Rattle.mos6502.specs.Numbers.{TurnNumbers, turnOnNumbers}
 use Rattle.mos6502.specs.Rounds.{Round, at-first, at-last, Turns, round-turns}
 use Rattle.mos6502.proofs.go_on.Statement.{statement}
 use Rattle.mos6502.proofs.go_on.Tie as tie

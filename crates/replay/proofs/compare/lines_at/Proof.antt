@@ -1,10 +1,10 @@
--- Bit by bit.
-use native.Mathlib.Nat.{div-one}
+-- As a host's byte.
+use borrow.Author.Needs.{needs}
 use Rattle.replay.proofs.compare.lines_at.Statement.{statement}
 use Rattle.replay.proofs.compare.lines_at.Tie as tie
 
 returns : tie.Need-returns
-returns c = rw div-one
+returns c = c .lines-from .ensures
 
 pub lines-at-spec : {M : Type 1} → statement M
-lines-at-spec = tie.close (tie.spec returns)
+lines-at-spec = tie.close (tie.spec (search needs) returns)

@@ -1,8 +1,8 @@
 -- Where a step was made the numbers are the machine's.
 use mathlib.Core.Path.{refl}
 use borrow.Author.Needs.{needs}
-use Rattle.mos6502.proofs.hand_back.Statement.{statement}
-use Rattle.mos6502.proofs.hand_back.Tie as tie
+use Rattle.numbers.proofs.hand_back.Statement.{statement}
+use Rattle.numbers.proofs.hand_back.Tie as tie
 
 returns : tie.Need-returns
 returns c = rw (c .before .before .if1 .taken) (c .pack .ensures .0, (refl, rw (c .pack .ensures .1 .0, c .pack .ensures .1 .1)))

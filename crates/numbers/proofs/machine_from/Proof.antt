@@ -1,7 +1,7 @@
 -- The unpacked registers, the count and the unpacked level.
 use borrow.Author.Needs.{needs}
-use Rattle.mos6502.proofs.machine_from.Statement.{statement}
-use Rattle.mos6502.proofs.machine_from.Tie as tie
+use Rattle.numbers.proofs.machine_from.Statement.{statement}
+use Rattle.numbers.proofs.machine_from.Tie as tie
 
 returns : tie.Need-returns
 returns c = rw (c .new .ensures, c .before .unpack-nmi .ensures, c .before .before .unpack .ensures)

@@ -1,0 +1,203 @@
+// The watched run and the footprints on numbers, for a host in C or Rust: see host/watch.h.
+ghost use mathlib.Core.Path.{_≡_};
+ghost use lib.ListN.{length};
+ghost use Rattle.manual.specs.ReadList.{listedStep};
+ghost use Rattle.manual.specs.Theorems.Stores.{storedByStep};
+ghost use Rattle.numbers.specs.Machines.{machineFrom, linesFrom};
+ghost use Rattle.footprint.specs.Places.{footprintOf};
+ghost use Rattle.witness.specs.Guarded.{inPages, inStretch};
+ghost use Rattle.watch_c.specs.Watching.{watchNumbers, watchedOnNumbers, longWatchedOnNumbers};
+use footprint::reads_of;
+use footprint::stores_of;
+use numbers::hand_back;
+use numbers::lines_from;
+use numbers::machine_from;
+use witness::Watched;
+use witness::watched_long;
+use witness::watched_run;
+use witness::watched_stretch;
+
+// The answer of a run that was halted before it would have read a sealed byte.
+const HALTED: u8 = 13;
+
+// What a watched run answered, as numbers. Where it was not halted the place is 0000.
+fn hand_over(
+    watched: Watched,
+    registers: &mut u64,
+    cycles: &mut u64,
+    steps: &mut u64,
+    place: &mut u16,
+) -> u8
+    ensures { λ r.
+        ⌜ record {
+          answer = r;
+          steps = now (steps .exit);
+          place = now (place .exit);
+          registers = now (registers .exit);
+          cycles = now (cycles .exit);
+        }
+        ≡ watchNumbers (now (registers .entry)) (now (cycles .entry)) watched ⌝ }
+{
+    match watched {
+        Watched::Ran(ended) => {
+            let reason = ended.reason;
+            *steps = ended.steps;
+            *place = 0;
+            hand_back(0 < ended.steps, ended.machine, registers, cycles);
+            reason.number()
+        }
+        Watched::Halted(halt) => {
+            *steps = halt.steps;
+            *place = halt.place;
+            hand_back(0 < halt.steps, halt.machine, registers, cycles);
+            HALTED
+        }
+    }
+}
+
+// A run of at most `bound` steps whose memory has sealed pages: those whose byte in `pages` is not 0.
+#[no_mangle]
+pub extern "C" fn mos6502_watched_run(
+    registers: &mut u64,
+    cycles: &mut u64,
+    steps: &mut u64,
+    place: &mut u16,
+    bound: u64,
+    lines: u8,
+    pages: &[u8; 256],
+    memory: &mut [u8],
+) -> u8
+    ensures { λ r.
+        ⌜ (
+          record {
+            answer = r;
+            steps = now (steps .exit);
+            place = now (place .exit);
+            registers = now (registers .exit);
+            cycles = now (cycles .exit);
+          },
+          now (memory .exit),
+        )
+        ≡ watchedOnNumbers (inPages (now (pages .entry))) bound lines (now (registers .entry)) (now (cycles .entry)) (now (memory .entry)) ⌝ }
+{
+    let watched = watched_run(
+        machine_from(*registers, *cycles),
+        bound,
+        lines_from(lines),
+        pages,
+        memory,
+    );
+    hand_over(watched, registers, cycles, steps, place)
+}
+
+// The same where the addresses from a first to a last one are sealed; none where the last is below the first.
+#[no_mangle]
+pub extern "C" fn mos6502_watched_stretch(
+    registers: &mut u64,
+    cycles: &mut u64,
+    steps: &mut u64,
+    place: &mut u16,
+    bound: u64,
+    lines: u8,
+    first: u16,
+    last: u16,
+    memory: &mut [u8],
+) -> u8
+    ensures { λ r.
+        ⌜ (
+          record {
+            answer = r;
+            steps = now (steps .exit);
+            place = now (place .exit);
+            registers = now (registers .exit);
+            cycles = now (cycles .exit);
+          },
+          now (memory .exit),
+        )
+        ≡ watchedOnNumbers (inStretch first last) bound lines (now (registers .entry)) (now (cycles .entry)) (now (memory .entry)) ⌝ }
+{
+    let watched = watched_stretch(
+        machine_from(*registers, *cycles),
+        bound,
+        lines_from(lines),
+        first,
+        last,
+        memory,
+    );
+    hand_over(watched, registers, cycles, steps, place)
+}
+
+// The same with any number of steps.
+#[no_mangle]
+pub extern "C" fn mos6502_watched_long(
+    registers: &mut u64,
+    cycles: &mut u64,
+    steps: &mut u64,
+    place: &mut u16,
+    bound: u64,
+    lines: u8,
+    first: u16,
+    last: u16,
+    memory: &mut [u8],
+) -> u8
+    ensures { λ r.
+        ⌜ (
+          record {
+            answer = r;
+            steps = now (steps .exit);
+            place = now (place .exit);
+            registers = now (registers .exit);
+            cycles = now (cycles .exit);
+          },
+          now (memory .exit),
+        )
+        ≡ longWatchedOnNumbers (inStretch first last) bound lines (now (registers .entry)) (now (cycles .entry)) (now (memory .entry)) ⌝ }
+{
+    let watched = watched_long(
+        machine_from(*registers, *cycles),
+        bound,
+        lines_from(lines),
+        first,
+        last,
+        memory,
+    );
+    hand_over(watched, registers, cycles, steps, place)
+}
+
+// The number of addresses that a step from here reads, and they in order, with zeros after them. Nothing is changed.
+#[no_mangle]
+pub extern "C" fn mos6502_reads(
+    registers: u64,
+    cycles: u64,
+    lines: u8,
+    memory: &[u8],
+    places: &mut [u16; 5],
+) -> usize
+    ensures { λ r.
+        ⌜ record { count = r; places = now (places .exit) }
+        ≡ footprintOf (listedStep (length (now (memory .entry))) (linesFrom lines) (machineFrom registers cycles) (now (memory .entry))) ⌝ }
+{
+    let footprint = reads_of(machine_from(registers, cycles), lines_from(lines), memory);
+    let listed = footprint.places;
+    *places = listed;
+    footprint.count
+}
+
+// The same of the addresses that it stores to.
+#[no_mangle]
+pub extern "C" fn mos6502_stores(
+    registers: u64,
+    cycles: u64,
+    lines: u8,
+    memory: &[u8],
+    places: &mut [u16; 5],
+) -> usize
+    ensures { λ r.
+        ⌜ record { count = r; places = now (places .exit) }
+        ≡ footprintOf (storedByStep (length (now (memory .entry))) (linesFrom lines) (machineFrom registers cycles) (now (memory .entry))) ⌝ }
+{
+    let footprint = stores_of(machine_from(registers, cycles), lines_from(lines), memory);
+    let listed = footprint.places;
+    *places = listed;
+    footprint.count
+}

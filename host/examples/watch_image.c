@@ -1,0 +1,68 @@
+/* watch_image FIRST LAST STEPS IMAGE: runs an image as report starts it, with the bytes from FIRST to LAST sealed. Prints the
+ * answer and the steps made; where it was halted, also the counter, the sealed address that it would have read and what its
+ * next step would store to. The exit status is the answer, 64 for wrong usage.
+ *
+ *     rt staticlib watch_c
+ *     cc -I host host/examples/watch_image.c target/staticlib/libwatch_c.a -o target/watch_image
+ *     target/watch_image 0400 04FF 2000 crates/sealed/data/letter.img
+ */
+#include <stdio.h>
+#include <stdlib.h>
+
+#include "mos6502.h"
+#include "watch.h"
+
+enum { SIZE = 65536, STACK = 24, STATUS = 32, COUNTER = 40 };
+
+static uint8_t memory[SIZE + 1];
+
+/* Whether a word is a number of that base, and no more than `most`. */
+static int read_number(const char *word, int base, unsigned long most, unsigned long *number)
+{
+    char *end;
+    *number = strtoul(word, &end, base);
+    return *word != '\0' && *end == '\0' && *number <= most;
+}
+
+/* Whether a file was read whole, and its length. */
+static int read_image(const char *name, size_t *length)
+{
+    FILE *file = fopen(name, "rb");
+    int good;
+
+    if (!file)
+        return 0;
+    *length = fread(memory, 1, sizeof memory, file);
+    good = !ferror(file);
+    fclose(file);
+    return good;
+}
+
+int main(int count, char **words)
+{
+    unsigned long first, last, bound;
+    uint64_t registers, cycles = 0, steps;
+    uint16_t place, places[5];
+    size_t length, stores;
+    uint8_t answer;
+
+    if (count != 5 || !read_number(words[1], 16, 0xFFFF, &first) || !read_number(words[2], 16, 0xFFFF, &last) ||
+        !read_number(words[3], 10, 1000000000, &bound) || !read_image(words[4], &length)) {
+        fprintf(stderr, "usage: watch_image FIRST LAST STEPS IMAGE, as in: watch_image 0400 04FF 2000 letter.img\n");
+        return 64;
+    }
+    /* S is FF and only I is set; libmos6502.a, with mos6502_registers, is not needed for that. */
+    registers = (uint64_t)0xFF << STACK | (uint64_t)0x04 << STATUS |
+                (uint64_t)(memory[0xFFFC] | memory[0xFFFD] << 8) << COUNTER;
+    answer = mos6502_watched_long(&registers, &cycles, &steps, &place, bound, MOS6502_IDLE, (uint16_t)first,
+                                  (uint16_t)last, memory, length);
+    printf("%u %llu", answer, (unsigned long long)steps);
+    if (answer == MOS6502_HALTED) {
+        printf(" %04X %04X", (unsigned)(registers >> COUNTER & 0xFFFF), place);
+        stores = mos6502_stores(registers, cycles, MOS6502_IDLE, memory, length, places);
+        for (size_t i = 0; i < stores; i++)
+            printf(" %04X", places[i]);
+    }
+    printf("\n");
+    return answer;
+}

@@ -1,0 +1,60 @@
+/* The watched run and the footprints, proved, for a host in C or C++: link target/staticlib/libwatch_c.a, which
+ * `rt staticlib watch_c` writes for x86-64. It stands by itself; beside libmos6502.a it shares no symbol with it.
+ *
+ * The registers are the number of mos6502.h, which also has the functions that make it and take it apart, and the levels of the
+ * lines. The numbers, the places, the map and the `length` bytes of memory must not overlap, and nobody else may use them
+ * meanwhile.
+ */
+#ifndef WATCH_H
+#define WATCH_H
+
+#include <stddef.h>
+#include <stdint.h>
+
+#ifdef __cplusplus
+extern "C" {
+#endif
+
+/* What a watched run answers where it was halted. */
+enum { MOS6502_HALTED = 13 };
+
+/* At most `bound` steps, as mos6502_run makes them, with a sealed part of the memory. Before each step it looks at the bytes that
+ * the step would read; where one is sealed it is halted, and the step is not made. `pages` has 256 bytes, one for each page of
+ * the memory, which is sealed where its byte is not 0. A store to a sealed address is no read, and a byte that the run itself
+ * stored there is sealed all the same. A line that is served reads its vector. It answers, the first that holds:
+ *   1  length is not 65,536
+ *   4  bound is above 1,000,000
+ *   and for the first step that is not made, which is not counted:
+ *   2  *cycles is above 18,446,744,073,709,551,608
+ *  13  it would read a sealed byte
+ *   3  no line is served, and the byte at the counter is none of the 151 documented opcodes
+ *   0  all `bound` steps were made; the program was still running, and nothing says that it finished
+ * *steps is written, with the number of steps made, and *place, with the first sealed address that the next step would read, 0
+ * with every answer but 13. The numbers and the memory are those after the steps made; where none was made, they are as they
+ * were, the registers' number to the bit. Nothing that it gives depends on a sealed byte. */
+uint8_t mos6502_watched_run(uint64_t *registers, uint64_t *cycles, uint64_t *steps, uint16_t *place, uint64_t bound,
+                            uint8_t lines, const uint8_t *pages, uint8_t *memory, size_t length);
+
+/* The same where the addresses from `first` to `last` are sealed; none where `last` is below `first`. */
+uint8_t mos6502_watched_stretch(uint64_t *registers, uint64_t *cycles, uint64_t *steps, uint16_t *place, uint64_t bound,
+                                uint8_t lines, uint16_t first, uint16_t last, uint8_t *memory, size_t length);
+
+/* The same with any bound, so that no answer is 4. */
+uint8_t mos6502_watched_long(uint64_t *registers, uint64_t *cycles, uint64_t *steps, uint16_t *place, uint64_t bound,
+                             uint8_t lines, uint16_t first, uint16_t last, uint8_t *memory, size_t length);
+
+/* The number of addresses that a step from here reads, at most 5. All five of `places` are written: these addresses in the
+ * order of the step, then zeros. An address that it reads twice is there twice. None is read where length is not 65,536 or there
+ * is no room for the cycles, and only the opcode where that is not documented. Nothing is changed. */
+size_t mos6502_reads(uint64_t registers, uint64_t cycles, uint8_t lines, const uint8_t *memory, size_t length,
+                     uint16_t *places);
+
+/* The same of the addresses that it stores to, at most 3: none where the step is refused. */
+size_t mos6502_stores(uint64_t registers, uint64_t cycles, uint8_t lines, const uint8_t *memory, size_t length,
+                      uint16_t *places);
+
+#ifdef __cplusplus
+}
+#endif
+
+#endif
