@@ -239,7 +239,8 @@ module _ (lines : Lines) (s : Machine) (n : ℕ) (l : 0 < n) where
   abbrev pub far : ℕ
   far = stretch (due lines s) (reach (lines .irq) n)
 
-  some : (d : Due) (irq : Bool) → (0 < stretch d (reach irq n)) × (stretch d (reach irq n) ≤ n)
+  -- it is some of them, and no more
+  pub some : (d : Due) (irq : Bool) → (0 < stretch d (reach irq n)) × (stretch d (reach irq n) ≤ n)
   some (Through vector) irq = (omega arith, omega arith)
   some Quiet true = (l, omega arith)
   some Quiet false = (omega arith, omega arith)

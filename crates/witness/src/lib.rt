@@ -1,7 +1,12 @@
 // A run that is halted before a step that would read a sealed byte, so that nothing it gives was made with one.
 ghost use mathlib.Core.Path.{_≡_};
+ghost use mathlib.Core.Bool.{false, not, cond, _&&_};
+ghost use Prim.Native.Nat.{_+_, _-_, _<_};
 ghost use lib.ListN.{length};
+ghost use Rattle.manual.specs.Outcomes.{machineOf};
+ghost use Rattle.manual.specs.Interrupts.{due};
 ghost use Rattle.manual.specs.Stepping.{fullMemory};
+ghost use Rattle.cpu.specs.Turning.{raised, Calm, stretch};
 ghost use Rattle.witness.specs.Guarded.{inPages, inStretch, inEither, ran, halted, guardedFull, guarded, longGuarded};
 use cpu::dispatch;
 use cpu::reach;
@@ -81,7 +86,7 @@ fn patrol(
     last: u16,
     memory: &mut [u8],
 ) -> Watched
-    requires { ⌜ (length (now memory) ≡ fullMemory) × (due (raised nmi) start ≡ Due.Quiet) ⌝ }
+    requires { ⌜ (length (now memory) ≡ fullMemory) × ((start .nmi && not nmi) ≡ false) ⌝ }
     ensures { λ r.
         ⌜ (r, now (memory .exit))
         ≡ guardedFull (inEither (now (pages .entry)) first last) (bound - made) made (raised nmi) start (now (memory .entry)) ⌝ }
@@ -122,13 +127,18 @@ fn patrol(
 fn serve_line(
     vector: u16,
     start: Machine,
-    nmi: bool,
     steps: u64,
+    lines: Lines,
     pages: &[u8; 256],
     first: u16,
     last: u16,
     memory: &mut [u8],
-) -> Watched {
+) -> Watched
+    requires { ⌜ (length (now memory) ≡ fullMemory) × (due lines start ≡ Due.Through vector) × (steps + 1 < 18446744073709551616) ⌝ }
+    ensures { λ r.
+        ⌜ (r, now (memory .exit))
+        ≡ guardedFull (inEither (now (pages .entry)) first last) 1 steps lines start (now (memory .entry)) ⌝ }
+{
     if HIGHEST_COUNT < start.cycles {
         return Watched::ran(Reason::NoCycleRoom, steps, start);
     }
@@ -137,7 +147,7 @@ fn serve_line(
         return Watched::halted(place, steps, start);
     }
     let registers = serve(vector, start.registers, memory);
-    let left = Machine::new(registers, start.cycles + 7, nmi);
+    let left = Machine::new(registers, start.cycles + 7, lines.nmi);
     Watched::ran(Reason::Made, steps + 1, left)
 }
 
@@ -151,10 +161,15 @@ fn turn(
     first: u16,
     last: u16,
     memory: &mut [u8],
-) -> Watched {
+) -> Watched
+    requires { ⌜ (length (now memory) ≡ fullMemory) × Calm lines (bound - steps) × (steps < bound) ⌝ }
+    ensures { λ r.
+        ⌜ (r, now (memory .exit))
+        ≡ guardedFull (inEither (now (pages .entry)) first last) (stretch (due lines start) (bound - steps)) steps lines start (now (memory .entry)) ⌝ }
+{
     match lines.due(start) {
         Due::Through(vector) => {
-            serve_line(vector, start, lines.nmi, steps, pages, first, last, memory)
+            serve_line(vector, start, steps, lines, pages, first, last, memory)
         }
         Due::Quiet => patrol(start, lines.nmi, steps, bound, pages, first, last, memory),
     }
