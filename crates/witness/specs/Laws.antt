@@ -10,6 +10,7 @@ use borrow.Author.Tests.{eq-eqb, ne-eqb, le-leb, lt-leb}
 use lib.Dec.{leb}
 use lib.ListN.{getD, length, length-take, take, drop, replicate}
 use lib.Seq.{drop-cons, getD-take}
+use Rattle.registers.specs.declared.Registers.{Registers}
 use Rattle.manual.specs.declared.Lines.{Lines}
 use Rattle.manual.specs.declared.Machine.{Machine}
 use Rattle.manual.specs.declared.Stepped.{Stepped}
@@ -18,13 +19,12 @@ use Rattle.manual.specs.declared.Due.the-variants.{Through, Quiet}
 use Rattle.manual.specs.declared.Reason.the-variants.{Made, MemoryNotFull, NoCycleRoom, BoundTooHigh}
 use Rattle.manual.specs.Micro.{exec, Gives}
 use Rattle.manual.specs.Words.{page}
-use Rattle.manual.specs.Outcomes.{isMade}
-use Rattle.manual.specs.Interrupts.{nmiVector, irqVector, falls, calls, due}
+use Rattle.manual.specs.Outcomes.{machineOf, isMade}
+use Rattle.manual.specs.Interrupts.{idle, nmiVector, irqVector, falls, calls, due}
 use Rattle.manual.specs.Stepping.{fullMemory, highestCount, highestBound, stepFull}
 use Rattle.manual.specs.ReadList.{listedDue, listedStepFull}
 use Rattle.manual.specs.Theorems.Answers.{Way, late, serves, undefined, ready, way, not-quiet}
 use Rattle.manual.specs.Theorems.StepLaws.{due-none, step-late, step-undefined, step-defined}
-use Rattle.footprint.specs.declared.places.Footprint.{Footprint}
 use Rattle.footprint.specs.Places.{footprintOf, addresses}
 use Rattle.footprint.specs.Laws.{late-list, due-list}
 use Rattle.footprint.specs.Theorems.{full-kept}
@@ -132,14 +132,16 @@ guarded-end seal k lines s m = refl
 pub one-more : (bound k : ℕ) → k < bound → bound - k ≡ suc (bound - (k + 1))
 one-more bound k l = omega arith
 
+-- what the byte at the counter reads is kept whole by a footprint
+pub quiet-kept : (r : Registers) (m : List ℕ) → addresses (footprintOf (listedDue Quiet r m)) ≡ listedDue Quiet r m
+quiet-kept r m = full-kept idle (machineOf r 0 true) m
+
 -- the first sealed address of what is read by what is due is that of the step
-pub seen-due : (seal : ℕ → Bool) (lines : Lines) (s : Machine) (m : List ℕ) (d : Due) {f : Footprint} {x : Seen} → s .cycles ≤ highestCount
+pub seen-due : (seal : ℕ → Bool) (lines : Lines) (s : Machine) (m : List ℕ) (d : Due) {x : Seen} → s .cycles ≤ highestCount
     → due lines s ≡ d
-    → f ≡ footprintOf (listedDue d (s .registers) m)
-    → x ≡ firstSealed seal (addresses f)
+    → x ≡ firstSealed seal (listedDue d (s .registers) m)
     → firstSealed seal (listedStepFull lines s m) ≡ x
-seen-due seal lines s m d room is e h =
-    ap (firstSealed seal) (sym (full-kept lines s m) ∙ ap (λ (l : List ℕ). addresses (footprintOf l)) (due-list lines s m d room is) ∙ ap addresses (sym e)) ∙ sym h
+seen-due seal lines s m d room is h = ap (firstSealed seal) (due-list lines s m d room is) ∙ sym h
 
 -- ---- with IRQ high
 
@@ -153,6 +155,12 @@ quiet-held lines s e = go (falls lines s) (calls lines s) e
 
 pub held-quiet : (nmi : Bool) (s : Machine) → (s .nmi && not nmi) ≡ false → due (raised nmi) s ≡ Quiet
 held-quiet nmi s e = due-none (raised nmi) s e refl
+
+-- nor does it after a step, when the last level is the present one
+pub level-held : (begun was nmi : Bool) → (was && not nmi) ≡ false → (cond begun nmi was && not nmi) ≡ false
+level-held true was true e = refl
+level-held true was false e = refl
+level-held false was nmi e = e
 
 module _ (lines : Lines) (s : Machine) (m : List ℕ) (none : due lines s ≡ Quiet) where
   abbrev high : Lines
@@ -207,7 +215,8 @@ module _ (seal : ℕ → Bool) (lines : Lines) where
   guarded-onward zero n k s m = let e : 0 + n ≡ n = omega arith in rw e (sym (ap (onward n) (guarded-end seal k lines s m)))
   guarded-onward (suc j) n k s m =
       let w = exec (stepFull lines s) m in
-      then-onward j n k s m (w .0) (w .1) (firstSealed seal (listedStepFull lines s m)) (isMade (w .0 .reason)) refl (guarded-onward j n (k + 1) (w .0 .machine) (w .1))
+      let e : suc j + n ≡ suc (j + n) = omega arith in
+      rw e (then-onward j n k s m (w .0) (w .1) (firstSealed seal (listedStepFull lines s m)) (isMade (w .0 .reason)) refl (guarded-onward j n (k + 1) (w .0 .machine) (w .1)))
 
   -- where all of some steps were made, they were so many
   abbrev Counted : ℕ → Watched × List ℕ → Type 0

@@ -6,8 +6,9 @@ ghost use lib.ListN.{length};
 ghost use Rattle.manual.specs.Outcomes.{machineOf};
 ghost use Rattle.manual.specs.Interrupts.{due};
 ghost use Rattle.manual.specs.Stepping.{fullMemory};
+ghost use Rattle.manual.specs.ReadList.{listedDue};
 ghost use Rattle.cpu.specs.Turning.{raised, Calm, stretch};
-ghost use Rattle.witness.specs.Guarded.{inPages, inStretch, inEither, ran, halted, guardedFull, guarded, longGuarded};
+ghost use Rattle.witness.specs.Guarded.{inPages, inStretch, inEither, firstSealed, ran, halted, guardedFull, guarded, longGuarded};
 use cpu::dispatch;
 use cpu::reach;
 use footprint::reads_quiet;
@@ -63,6 +64,16 @@ impl Watched {
     }
 }
 
+// The first sealed address that the byte at the counter reads, where no line is due.
+fn ahead(pages: &[u8; 256], first: u16, last: u16, registers: Registers, memory: &[u8]) -> Seen
+    requires { ⌜ length (now memory) ≡ fullMemory ⌝ }
+    ensures { λ r.
+        ⌜ r
+        ≡ firstSealed (inEither (now (pages .entry)) first last) (listedDue Due.Quiet registers (now (memory .entry))) ⌝ }
+{
+    first_sealed(pages, first, last, reads_quiet(registers, memory))
+}
+
 // The machine after some steps of a patrol: where one was made it has the present level of NMI.
 fn kept(begun: bool, start: Machine, nmi: bool, registers: Registers, cycles: u64) -> Machine
     ensures { λ r. ⌜ r ≡ machineOf registers cycles (cond begun nmi (start .nmi)) ⌝ }
@@ -100,8 +111,8 @@ fn patrol(
             let left = kept(made < steps, start, nmi, registers, cycles);
             return Watched::ran(Reason::NoCycleRoom, steps, left);
         }
-        let ahead = first_sealed(pages, first, last, reads_quiet(registers, memory));
-        if let Seen::At(place) = ahead {
+        let seen = ahead(pages, first, last, registers, memory);
+        if let Seen::At(place) = seen {
             let left = kept(made < steps, start, nmi, registers, cycles);
             return Watched::halted(place, steps, left);
         }
@@ -142,8 +153,8 @@ fn serve_line(
     if HIGHEST_COUNT < start.cycles {
         return Watched::ran(Reason::NoCycleRoom, steps, start);
     }
-    let ahead = first_sealed(pages, first, last, reads_through(vector));
-    if let Seen::At(place) = ahead {
+    let seen = first_sealed(pages, first, last, reads_through(vector));
+    if let Seen::At(place) = seen {
         return Watched::halted(place, steps, start);
     }
     let registers = serve(vector, start.registers, memory);

@@ -1,12 +1,14 @@
 -- The room is tested first, then the two bytes of the vector; then the line is served.
-use mathlib.Core.Path.{refl, sym, _∙_}
+use mathlib.Core.Path.{refl, ap, sym, _∙_}
 use native.Mathlib.Omega.{arith}
 use borrow.Author.Needs.{needs}
 use denote.Ref.{now}
 use Rattle.manual.specs.declared.Due.the-variants.{Through}
 use Rattle.manual.specs.Theorems.Ranges.{vector-within}
 use Rattle.manual.specs.Theorems.StepLaws.{step-serves}
-use Rattle.witness.specs.Guarded.{inEither}
+use Rattle.footprint.specs.declared.places.Footprint.{Footprint}
+use Rattle.footprint.specs.Places.{addresses}
+use Rattle.witness.specs.Guarded.{inEither, firstSealed}
 use Rattle.witness.specs.Laws.{seen-due, guarded-halts, guarded-goes-on, guarded-late, guarded-end}
 use Rattle.witness.proofs.serve_line.Statement.{statement}
 use Rattle.witness.proofs.serve_line.Tie as tie
@@ -30,8 +32,8 @@ returns-2 c =
     let s = c₆ .before .before .before in
     let a = s .args in
     let seal = inEither (now (a .pages)) (a .first) (a .last) in
-    let seen = seen-due seal (a .lines) (a .start) (now (a .memory)) (Through (a .vector)) (c₆ .if1 .left) (s .pre .1) (c₄ .before .reads-through .ensures) (c₄ .first-sealed .ensures) in
-    rw (c .halted .ensures) (sym (guarded-halts seal 0 (a .steps) (a .lines) (a .start) (now (a .memory)) _ (seen ∙ c₂ .ahead .given .1)))
+    let seen = seen-due seal (a .lines) (a .start) (now (a .memory)) (Through (a .vector)) (c₆ .if1 .left) (s .pre .1) (c₄ .first-sealed .ensures ∙ ap (λ (f : Footprint). firstSealed seal (addresses f)) (c₄ .before .reads-through .ensures)) in
+    rw (c .halted .ensures) (sym (guarded-halts seal 0 (a .steps) (a .lines) (a .start) (now (a .memory)) _ (seen ∙ c₂ .seen .given .1)))
 
 serve-requires : tie.Need-serve-requires
 serve-requires c κs =
@@ -52,7 +54,7 @@ returns-3 c =
     let s = c₁₁ .before .before .before in
     let a = s .args in
     let seal = inEither (now (a .pages)) (a .first) (a .last) in
-    let seen = seen-due seal (a .lines) (a .start) (now (a .memory)) (Through (a .vector)) (c₁₁ .if1 .left) (s .pre .1) (c₉ .before .reads-through .ensures) (c₉ .first-sealed .ensures) in
+    let seen = seen-due seal (a .lines) (a .start) (now (a .memory)) (Through (a .vector)) (c₁₁ .if1 .left) (s .pre .1) (c₉ .first-sealed .ensures ∙ ap (λ (f : Footprint). firstSealed seal (addresses f)) (c₉ .before .reads-through .ensures)) in
     rw (c .ran2 .ensures, c .before .new .ensures)
     (sym
     (guarded-goes-on seal 0 (a .steps) (a .lines) (a .start) (now (a .memory)) _ _
