@@ -14,6 +14,7 @@ use Rattle.registers.specs.declared.Registers.{Registers}
 use Rattle.manual.specs.declared.Lines.{Lines}
 use Rattle.manual.specs.declared.Machine.{Machine}
 use Rattle.manual.specs.declared.Stepped.{Stepped}
+use Rattle.manual.specs.declared.Ended.{Ended}
 use Rattle.manual.specs.declared.Due.{Due}
 use Rattle.manual.specs.declared.Due.the-variants.{Through, Quiet}
 use Rattle.manual.specs.declared.Reason.the-variants.{Made, MemoryNotFull, NoCycleRoom, BoundTooHigh}
@@ -28,8 +29,9 @@ use Rattle.manual.specs.Theorems.StepLaws.{due-none, step-late, step-undefined,
 use Rattle.footprint.specs.Places.{footprintOf, addresses}
 use Rattle.footprint.specs.Laws.{late-list, due-list}
 use Rattle.footprint.specs.Theorems.{full-kept}
-use Rattle.cpu.specs.Turning.{raised, Calm}
+use Rattle.cpu.specs.Turning.{raised, stretch, Calm, reach, some}
 use Rattle.witness.specs.declared.Watched.{Watched}
+use Rattle.witness.specs.declared.Halt.{Halt}
 use Rattle.witness.specs.declared.seals.Seen.{Seen}
 use Rattle.witness.specs.declared.seals.Seen.the-variants.{Nothing, At}
 use Rattle.witness.specs.Guarded.{inPages, inStretch, inEither, firstSealed, ran, halted, unless, guardedFull, longGuarded, guarded}
@@ -238,6 +240,48 @@ module _ (seal : ℕ → Bool) (lines : Lines) where
       let one : k + 1 + j ≡ k + suc j = omega arith in
       then-counted j k (k + suc j) s m (w .0) (w .1) (firstSealed seal (listedStepFull lines s m)) (isMade (w .0 .reason)) refl
       (subst (λ (i : ℕ). Counted i (guardedFull seal j (k + 1) lines (w .0 .machine) (w .1))) one (guarded-counted j (k + 1) (w .0 .machine) (w .1)))
+
+-- ---- a run by turns
+
+module _ (seal : ℕ → Bool) (bound k : ℕ) (lines : Lines) (s : Machine) (m : List ℕ) (l : k < bound) where
+  -- the steps of a turn, of those that are left
+  abbrev pub turnOf : ℕ
+  turnOf = stretch (due lines s) (reach (lines .irq) (bound - k))
+
+  some-left : (0 < turnOf) × (turnOf ≤ bound - k)
+  some-left = some lines s (bound - k) (omega arith) (due lines s) (lines .irq)
+
+  module _ (w : Watched × List ℕ) (g : w ≡ guardedFull seal turnOf k lines s m) where
+    turn-onward : guardedFull seal (bound - k) k lines s m ≡ onward seal lines (bound - k - turnOf) w
+    turn-onward =
+        let e : bound - k ≡ turnOf + (bound - k - turnOf) = omega (arith, some-left .1) in
+        ap (λ (i : ℕ). guardedFull seal i k lines s m) e
+        ∙ guarded-onward seal lines turnOf (bound - k - turnOf) k s m
+        ∙ ap (onward seal lines (bound - k - turnOf)) (sym g)
+
+  -- where it was halted or stopped, so is the run
+  pub turn-halts : (h : Halt) (e : List ℕ) → (Watched.Halted h, e) ≡ guardedFull seal turnOf k lines s m
+      → guardedFull seal (bound - k) k lines s m ≡ (Watched.Halted h, e)
+  turn-halts h e g = turn-onward (Watched.Halted h, e) g
+
+  module _ (q : Ended) (e : List ℕ) (g : (Watched.Ran q, e) ≡ guardedFull seal turnOf k lines s m) where
+    pub turn-stops : isMade (q .reason) ≡ false → guardedFull seal (bound - k) k lines s m ≡ (Watched.Ran q, e)
+    turn-stops f = turn-onward (Watched.Ran q, e) g ∙ rw f
+
+    counted : isMade (q .reason) ≡ true → q .steps ≡ k + turnOf
+    counted = subst (Counted seal lines (k + turnOf)) (sym g) (guarded-counted seal lines turnOf k s m)
+
+    -- where it was not, it has made a step, and the run goes on from the machine that it left
+    pub turn-goes : isMade (q .reason) ≡ true
+        → (k < q .steps) × (q .steps ≤ bound)
+        × (guardedFull seal (bound - k) k lines s m ≡ guardedFull seal (bound - q .steps) (q .steps) lines (q .machine) e)
+    turn-goes f =
+        let made = counted f in
+        let rest : bound - k - turnOf ≡ bound - q .steps = omega (arith, made, some-left .1) in (
+          omega (arith, made, some-left .0),
+          omega (arith, made, some-left .1),
+          turn-onward (Watched.Ran q, e) g ∙ rw f (ap (λ (i : ℕ). guardedFull seal i (q .steps) lines (q .machine) e) rest),
+        )
 
 -- ---- the tests before the first step
 
