@@ -63,18 +63,6 @@ serving vector r count nmi =
       r₁ ← served vector r
       done (travelled 0 (ended Made 1 (machineOf r₁ (count + 7) nmi))))
 
--- ---- two tests, one after the other
-
-pub both : (a b : Bool) → a ≡ true → b ≡ true → (a && b) ≡ true
-both a b e f = rw (e, f)
-
-pub first-not : (a b : Bool) → a ≡ false → (a && b) ≡ false
-first-not a b e = rw e
-
-pub second-not : (a b : Bool) → b ≡ false → (a && b) ≡ false
-second-not true b e = e
-second-not false b e = refl
-
 -- ---- a turn by what is due
 
 turn-gives : (n : ℕ) (lines : Lines) (s : Machine) (m : List ℕ) (j : ℕ) {w : Travelled} {m′ : List ℕ} → stretch (due lines s) n ≡ j
@@ -251,7 +239,8 @@ module _ (lines : Lines) (s : Machine) (n : ℕ) (l : 0 < n) where
   abbrev pub far : ℕ
   far = stretch (due lines s) (reach (lines .irq) n)
 
-  some : (d : Due) (irq : Bool) → (0 < stretch d (reach irq n)) × (stretch d (reach irq n) ≤ n)
+  -- it is some of them, and no more
+  pub some : (d : Due) (irq : Bool) → (0 < stretch d (reach irq n)) × (stretch d (reach irq n) ≤ n)
   some (Through vector) irq = (omega arith, omega arith)
   some Quiet true = (l, omega arith)
   some Quiet false = (omega arith, omega arith)

@@ -6,7 +6,6 @@ ghost use lib.Dec.{ltb};
 ghost use lib.ListN.{length};
 ghost use Rattle.manual.specs.Micro.{Gives};
 ghost use Rattle.manual.specs.Outcomes.{machineOf, ended};
-ghost use Rattle.manual.specs.Interrupts.{due};
 ghost use Rattle.manual.specs.Stepping.{fullMemory, highestBound, step, runFull, run, longRun};
 ghost use Rattle.cpu.specs.Travelling.{travelled, travelling};
 ghost use Rattle.cpu.specs.Turning.{raised, serving, Calm, reach, turning};
@@ -15,10 +14,8 @@ use manual::Ended;
 use manual::FULL_MEMORY;
 use manual::HIGHEST_BOUND;
 use manual::HIGHEST_COUNT;
-use manual::IRQ_VECTOR;
 use manual::Lines;
 use manual::Machine;
-use manual::NMI_VECTOR;
 use manual::Reason;
 use manual::Stepped;
 use memory::Address;
@@ -47,22 +44,6 @@ impl Travelled {
             first: first,
         }
     }
-}
-
-// What is due before an opcode. Idle lines come first, since nothing else need be looked at then.
-fn due_before(lines: Lines, machine: Machine) -> Due
-    ensures { λ r. ⌜ r ≡ due lines machine ⌝ }
-{
-    if lines.nmi && lines.irq {
-        return Due::Quiet;
-    }
-    if machine.nmi && !lines.nmi {
-        return Due::Through(NMI_VECTOR);
-    }
-    if !lines.irq && !machine.registers.status.disable {
-        return Due::Through(IRQ_VECTOR);
-    }
-    Due::Quiet
 }
 
 // A line is served, which is one step: the last level of NMI becomes `nmi`.
@@ -127,8 +108,8 @@ pub fn turn(start: Machine, bound: u64, lines: Lines, memory: &mut [u8]) -> Trav
     requires { ⌜ (length (now memory) ≡ fullMemory) × Calm lines bound ⌝ }
     ensures { λ r. ⌜ Gives (turning bound lines start) (now (memory .entry)) r (now (memory .exit)) ⌝ }
 {
-    let due = due_before(lines, start);
-    match due {
+    let waiting = lines.due(start);
+    match waiting {
         Due::Through(vector) => {
             serve_line(vector, start.registers, start.cycles, lines.nmi, memory)
         }

@@ -1,59 +1,33 @@
 -- Laws that the code's proofs cite.
-use Prim.Native.Nat.{ℕ, _+_, _≤_, _<_}
-use mathlib.Core.Path.{_≡_, refl, ap, sym, _∙_}
-use mathlib.Core.Bool.{Bool, true, false, cond}
-use mathlib.Core.List.{List, [], _∷_, _++_}
-use native.Mathlib.Omega.{arith}
+use Prim.Native.Nat.{ℕ, _≤_, _<_}
+use mathlib.Core.Path.{_≡_, ap, _∙_}
+use mathlib.Core.List.{List, [], _∷_}
 use borrow.Author.Tests.{lt-ltb, le-ltb, eq-eqb, ne-eqb}
-use Rattle.instruction.specs.declared.AddressingMode.{AddressingMode}
-use Rattle.instruction.specs.declared.AddressingMode.the-variants.{Immediate}
+use lib.ListN.{getD}
 use Rattle.registers.specs.declared.Registers.{Registers}
 use Rattle.manual.specs.declared.Lines.{Lines}
 use Rattle.manual.specs.declared.Machine.{Machine}
 use Rattle.manual.specs.declared.Due.{Due}
-use Rattle.manual.specs.declared.Due.the-variants.{Through, Quiet}
-use Rattle.manual.specs.declared.Target.{Target}
-use Rattle.manual.specs.Micro.{exec, Gives}
-use Rattle.manual.specs.Addressing.{target}
-use Rattle.manual.specs.Interrupts.{falls, calls, nmiVector, irqVector, due}
+use Rattle.manual.specs.declared.Due.the-variants.{Quiet}
+use Rattle.instruction.specs.Opcodes.{decoded}
+use Rattle.manual.specs.Interrupts.{due}
 use Rattle.manual.specs.Stepping.{fullMemory, highestCount}
-use Rattle.manual.specs.ReadList.{is, operands, pointers, reached, listedDue, listedStepFull, listedStep}
-use Rattle.manual.specs.Theorems.Accesses.{aim}
-use Rattle.manual.specs.Theorems.Stores.{storedByDue, storedByStep}
-use Rattle.footprint.specs.Places.{footprintOf, added}
+use Rattle.manual.specs.ReadList.{listedEntry, listedDue, listedStepFull, listedStep}
+use Rattle.manual.specs.Theorems.Stores.{storedByEntry, storedByDue, storedByStep}
+use Rattle.footprint.specs.declared.places.Footprint.{Footprint}
+use Rattle.footprint.specs.Places.{footprintOf}
+use Rattle.footprint.specs.Ways.{Way, readBy, storedBy, ReadsBy, StoresBy}
 
--- one address more is one at the end of the list
-pub added-last : (l : List ℕ) (a : ℕ) → added (footprintOf l) a ≡ footprintOf (l ++ a ∷ [])
-added-last [] a = refl
-added-last (b ∷ []) a = refl
-added-last (b ∷ c ∷ []) a = refl
-added-last (b ∷ c ∷ d ∷ []) a = refl
-added-last (b ∷ c ∷ d ∷ e ∷ []) a = refl
-added-last (b ∷ c ∷ d ∷ e ∷ f ∷ l) a = refl
+-- ---- by the way of the byte at the counter
 
--- the byte that a mode leads to, after the bytes on the way
-pub to-target : (mode : AddressingMode) (r : Registers) (m : List ℕ) {t : Target} (counter : ℕ) → is mode Immediate ≡ false
-    → Gives (target mode r) m t m
-    → added (footprintOf (counter ∷ (operands mode r ++ pointers mode r m))) (t .address)
-    ≡ footprintOf (counter ∷ (operands mode r ++ pointers mode r m ++ reached mode r m))
-to-target mode r m {t} counter e g =
-    let there : exec (target mode r) m .0 .address ≡ t .address = ap (λ (w : Target × List ℕ). w .0 .address) g in
-    added-last (counter ∷ (operands mode r ++ pointers mode r m)) (t .address)
-    ∙ rw (e, there)
+module _ (r : Registers) (m : List ℕ) (opcode way : ℕ) (e : opcode ≡ getD m (r .counter) 0) where
+  pub quiet-list : ReadsBy way opcode → footprintOf (r .counter ∷ readBy way r m) ≡ footprintOf (listedDue Quiet r m)
+  quiet-list by =
+      ap (λ (w : Way). footprintOf (r .counter ∷ w r m)) by
+      ∙ ap (λ (k : ℕ). footprintOf (r .counter ∷ listedEntry (decoded k) r m)) e
 
--- the address that a mode leads to, as the code finds it
-pub aimed : (mode : AddressingMode) (r : Registers) (m : List ℕ) {t : Target} → Gives (target mode r) m t m
-    → footprintOf (t .address ∷ []) ≡ footprintOf (aim mode r m ∷ [])
-aimed mode r m g = ap (λ (w : Target × List ℕ). footprintOf (w .0 .address ∷ [])) (sym g)
-
--- a vector has a byte after it
-pub vector-below : (lines : Lines) (s : Machine) (vector : ℕ) → due lines s ≡ Through vector → vector + 1 < 65536
-vector-below lines s vector e = go (falls lines s) (calls lines s) e
-  where
-    go : (t u : Bool) → cond t (Through nmiVector) (cond u (Through irqVector) Quiet) ≡ Through vector → vector + 1 < 65536
-    go true u h = let z : nmiVector ≡ vector = cc in omega arith
-    go false true h = let z : irqVector ≡ vector = cc in omega arith
-    go false false h = let z : _≡_ {A = ℕ} 0 1 = cc in absurd (omega arith)
+  pub quiet-stores : StoresBy way opcode → footprintOf (storedBy way r m) ≡ footprintOf (storedByDue Quiet r m)
+  quiet-stores by = ap (λ (w : Way). footprintOf (w r m)) by ∙ ap (λ (k : ℕ). footprintOf (storedByEntry (decoded k) r m)) e
 
 -- ---- the tests of a step in their order
 

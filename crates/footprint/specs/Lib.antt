@@ -1,3 +1,5 @@
 pub mod Places
+pub mod Arms
+pub mod Ways
 pub mod Laws
 pub mod Theorems

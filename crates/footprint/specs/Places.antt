@@ -1,9 +1,7 @@
 -- A footprint: the addresses of a list in five places, with zeros after them. A sixth has no place.
-use Prim.Native.Nat.{ℕ, _+_}
-use mathlib.Core.Bool.{cond}
+use Prim.Native.Nat.{ℕ}
 use mathlib.Core.List.{List, [], _∷_, _++_}
-use lib.Dec.{leb}
-use lib.ListN.{length, take, set}
+use lib.ListN.{length, take}
 use Rattle.footprint.specs.declared.places.Footprint.{Footprint}
 
 abbrev pub footprintOf : List ℕ → Footprint
@@ -12,7 +10,3 @@ footprintOf l = record { count = length (take 5 l); places = take 5 (l ++ 0 ∷ 
 -- the addresses of a footprint
 abbrev pub addresses : Footprint → List ℕ
 addresses f = take (f .count) (f .places)
-
--- one address more, where there is a place for it
-abbrev pub added : Footprint → ℕ → Footprint
-added f a = cond (leb 5 (f .count)) f (record { count = f .count + 1; places = set (f .places) (f .count) a })

@@ -1,89 +1,57 @@
 // What a step will read and what it will store to, found before it is made. Nothing is changed.
 ghost use mathlib.Core.Path.{_≡_};
+ghost use mathlib.Core.List.{[], _∷_};
+ghost use Prim.Native.Nat.{_+_, _<_};
 ghost use lib.ListN.{length};
-ghost use Rattle.manual.specs.Interrupts.{falls as Interrupts·falls, calls as Interrupts·calls, due as Interrupts·due};
 ghost use Rattle.manual.specs.Stepping.{fullMemory};
 ghost use Rattle.manual.specs.ReadList.{listedDue, listedStepFull, listedStep};
 ghost use Rattle.manual.specs.Theorems.Stores.{storedByDue, storedByStep};
 ghost use Rattle.footprint.specs.Places.{footprintOf};
-use instruction::Decoded;
 use manual::Due;
 use manual::FULL_MEMORY;
 use manual::HIGHEST_COUNT;
-use manual::IRQ_VECTOR;
 use manual::Lines;
 use manual::Machine;
-use manual::NMI_VECTOR;
 use memory::Address;
 use memory::get_byte;
-use opcodes::decode;
 use places::Footprint;
 use reading::reads_by;
 use registers::Registers;
 use storing::pushes;
 use storing::stores_by;
+use ways::reading_way;
+use ways::storing_way;
 
+mod aims; // aims.rt: where the bytes after an opcode lead
 pub mod places; // places.rt: a few addresses in order
-mod reading; // reading.rt: what an instruction reads, the opcode first
-mod storing; // storing.rt: what an instruction stores to
+mod reading; // reading.rt: what is read by a way
+mod storing; // storing.rt: what is stored to by a way
+mod ways; // ways.rt: the way of each opcode
 
-// Whether NMI falls.
-fn falls(machine: Machine, lines: Lines) -> bool
-    ensures { λ r. ⌜ r ≡ Interrupts·falls lines machine ⌝ }
-{
-    machine.nmi && !lines.nmi
-}
-
-// Whether IRQ calls.
-fn calls(machine: Machine, lines: Lines) -> bool
-    ensures { λ r. ⌜ r ≡ Interrupts·calls lines machine ⌝ }
-{
-    !lines.irq && !machine.registers.status.disable
-}
-
-// What is due before an opcode: NMI comes first.
-fn due(machine: Machine, lines: Lines) -> Due
-    ensures { λ r. ⌜ r ≡ Interrupts·due lines machine ⌝ }
-{
-    if falls(machine, lines) {
-        return Due::Through(NMI_VECTOR);
-    }
-    if calls(machine, lines) {
-        return Due::Through(IRQ_VECTOR);
-    }
-    Due::Quiet
-}
-
-// What the byte at the counter reads, with itself.
-fn reads_at_counter(registers: Registers, memory: &[u8]) -> Footprint
+// What the byte at the counter reads, with itself: what a step reads where no line is due.
+pub fn reads_quiet(registers: Registers, memory: &[u8]) -> Footprint
     requires { ⌜ length (now memory) ≡ fullMemory ⌝ }
     ensures { λ r. ⌜ r ≡ footprintOf (listedDue Due.Quiet registers (now (memory .entry))) ⌝ }
 {
     let opcode = get_byte(memory, Address(registers.counter));
-    match decode(opcode) {
-        Decoded::Defined(entry) => {
-            let instruction = entry.instruction;
-            let mode = entry.mode;
-            reads_by(instruction, mode, registers, memory)
-        }
-        Decoded::Undefined => Footprint::one(Address(registers.counter)),
-    }
+    reads_by(reading_way(opcode), registers, memory)
 }
 
 // What the byte at the counter stores to.
-fn stores_at_counter(registers: Registers, memory: &[u8]) -> Footprint
+fn stores_quiet(registers: Registers, memory: &[u8]) -> Footprint
     requires { ⌜ length (now memory) ≡ fullMemory ⌝ }
     ensures { λ r. ⌜ r ≡ footprintOf (storedByDue Due.Quiet registers (now (memory .entry))) ⌝ }
 {
     let opcode = get_byte(memory, Address(registers.counter));
-    match decode(opcode) {
-        Decoded::Defined(entry) => {
-            let instruction = entry.instruction;
-            let mode = entry.mode;
-            stores_by(instruction, mode, registers, memory)
-        }
-        Decoded::Undefined => Footprint::none(),
-    }
+    stores_by(storing_way(opcode), registers, memory)
+}
+
+// The two bytes of a vector, which a step that serves a line reads.
+pub fn reads_through(vector: u16) -> Footprint
+    requires { ⌜ vector + 1 < 65536 ⌝ }
+    ensures { λ r. ⌜ r ≡ footprintOf (vector ∷ (vector + 1) ∷ []) ⌝ }
+{
+    Footprint::two(Address(vector), Address(vector + 1))
 }
 
 // What a step on a full memory reads.
@@ -94,9 +62,9 @@ pub fn reads_full(machine: Machine, lines: Lines, memory: &[u8]) -> Footprint
     if HIGHEST_COUNT < machine.cycles {
         return Footprint::none();
     }
-    match due(machine, lines) {
-        Due::Through(vector) => Footprint::two(Address(vector), Address(vector + 1)),
-        Due::Quiet => reads_at_counter(machine.registers, memory),
+    match lines.due(machine) {
+        Due::Through(vector) => reads_through(vector),
+        Due::Quiet => reads_quiet(machine.registers, memory),
     }
 }
 
@@ -120,8 +88,8 @@ pub fn stores_of(machine: Machine, lines: Lines, memory: &[u8]) -> Footprint
     if HIGHEST_COUNT < machine.cycles {
         return Footprint::none();
     }
-    match due(machine, lines) {
+    match lines.due(machine) {
         Due::Through(_) => pushes(machine.registers),
-        Due::Quiet => stores_at_counter(machine.registers, memory),
+        Due::Quiet => stores_quiet(machine.registers, memory),
     }
 }

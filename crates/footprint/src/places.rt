@@ -1,7 +1,7 @@
 // A few addresses in order, by value: at most five, as the rules say of the bytes that a step reads.
 ghost use mathlib.Core.Path.{_≡_};
 ghost use mathlib.Core.List.{[], _∷_};
-ghost use Rattle.footprint.specs.Places.{footprintOf, added};
+ghost use Rattle.footprint.specs.Places.{footprintOf};
 use memory::Address;
 
 // The first `count` of the places; after them stand zeros.
@@ -61,17 +61,19 @@ impl Footprint {
         }
     }
 
-    // One more at the end. There is no room for a sixth, and no step has one.
-    pub fn and(self, last: Address) -> Footprint
-        ensures { λ r. ⌜ r ≡ added self (last .0) ⌝ }
+    // Five addresses.
+    pub fn five(
+        first: Address,
+        second: Address,
+        third: Address,
+        fourth: Address,
+        fifth: Address,
+    ) -> Footprint
+        ensures { λ r. ⌜ r ≡ footprintOf (first .0 ∷ second .0 ∷ third .0 ∷ fourth .0 ∷ fifth .0 ∷ []) ⌝ }
     {
-        let at = self.count;
-        if 5 <= at {
-            return self;
+        Footprint {
+            count: 5,
+            places: [first.0, second.0, third.0, fourth.0, fifth.0],
         }
-        let mut longer = self;
-        longer.places[at] = last.0;
-        longer.count = at + 1;
-        longer
     }
 }

@@ -1,126 +1,135 @@
-// What an instruction reads, in the order of the rules' list: the opcode, operand bytes, pointer bytes, the target or what is
-// pulled.
+// What an opcode reads, in the order of the rules' list: itself, operand bytes, pointer bytes, the target or what is pulled.
 ghost use mathlib.Core.Path.{_≡_};
-ghost use mathlib.Core.List.{_∷_, _++_};
+ghost use mathlib.Core.List.{[], _∷_};
+ghost use Prim.Native.Nat.{_+_};
 ghost use lib.ListN.{length};
+ghost use Rattle.manual.specs.Words.{low, page, joined};
+ghost use Rattle.manual.specs.Addressing.{operand};
 ghost use Rattle.manual.specs.Stepping.{fullMemory};
-ghost use Rattle.manual.specs.ReadList.{operands, pointers, reached, pulled, listed};
+ghost use Rattle.manual.specs.ReadList.{pointerAt};
 ghost use Rattle.footprint.specs.Places.{footprintOf};
+ghost use Rattle.footprint.specs.Ways.{readBy};
+use crate::aims::above;
+use crate::aims::absolute;
+use crate::aims::indexed;
+use crate::aims::operand;
+use crate::aims::pointed;
+use crate::aims::zero_page;
+use crate::aims::zero_page_plus;
 use crate::places::Footprint;
-use addressing::operand_at;
-use addressing::target_of;
-use instruction::AddressingMode;
-use instruction::Instruction;
+use crate::ways::*;
+use manual::IRQ_VECTOR;
 use memory::Address;
 use memory::ZeroPage;
-use memory::address_from_bytes;
-use memory::get_byte;
 use memory::join;
-use memory::read_address;
 use registers::Registers;
 
-// The byte so many places above the stack pointer, in its page.
-pub(crate) fn above(registers: Registers, count: u8) -> Address
-    ensures { λ r. ⌜ r .0 ≡ pulled registers count ⌝ }
+// The opcode, its operand and the two bytes of a pointer in the zero page.
+fn to_pointer(pointer: ZeroPage, registers: Registers) -> Footprint
+    ensures { λ r. ⌜ r ≡ footprintOf (registers .counter ∷ operand registers 1 ∷ pointerAt 0 (pointer .0)) ⌝ }
 {
-    let stack = registers.stack;
-    join(1, std::num::wrapping_add_u8(stack.0, count))
+    Footprint::four(
+        Address(registers.counter),
+        operand(registers, 1),
+        pointer.full(),
+        pointer.plus(1).full(),
+    )
 }
 
-// What is read to find where a mode leads.
-fn on_the_way(mode: AddressingMode, registers: Registers, memory: &[u8]) -> Footprint
-    requires { ⌜ length (now memory) ≡ fullMemory ⌝ }
+// The same and where the pointer leads.
+fn past_pointer(pointer: ZeroPage, target: Address, registers: Registers) -> Footprint
     ensures { λ r.
         ⌜ r
-        ≡ footprintOf (registers .counter ∷ (operands mode registers ++ pointers mode registers (now (memory .entry)))) ⌝ }
+        ≡ footprintOf
+        (registers .counter ∷ operand registers 1 ∷ joined 0 (pointer .0) ∷ joined 0 (low (pointer .0 + 1)) ∷ target .0 ∷ []) ⌝ }
 {
-    let opcode = Address(registers.counter);
-    let first = operand_at(registers, 1);
-    let second = operand_at(registers, 2);
-    match mode {
-        AddressingMode::Accumulator => Footprint::one(opcode),
-        AddressingMode::Implied => Footprint::one(opcode),
-        AddressingMode::Immediate => Footprint::two(opcode, first),
-        AddressingMode::ZeroPage => Footprint::two(opcode, first),
-        AddressingMode::ZeroPageX => Footprint::two(opcode, first),
-        AddressingMode::ZeroPageY => Footprint::two(opcode, first),
-        AddressingMode::Relative => Footprint::two(opcode, first),
-        AddressingMode::Absolute => Footprint::three(opcode, first, second),
-        AddressingMode::AbsoluteX => Footprint::three(opcode, first, second),
-        AddressingMode::AbsoluteY => Footprint::three(opcode, first, second),
-        AddressingMode::BuggyIndirect => {
-            let pointer = address_from_bytes(read_address(memory, first, second));
-            let high = pointer.high();
-            let low = pointer.low();
-            let next = std::num::wrapping_add_u8(low, 1);
-            Footprint::four(opcode, first, second, join(high, low)).and(join(high, next))
-        }
-        AddressingMode::IndexedIndirectX => {
-            let pointer = ZeroPage(get_byte(memory, first)).plus(registers.x);
-            Footprint::four(opcode, first, pointer.full(), pointer.plus(1).full())
-        }
-        AddressingMode::IndirectIndexedY => {
-            let pointer = ZeroPage(get_byte(memory, first));
-            Footprint::four(opcode, first, pointer.full(), pointer.plus(1).full())
-        }
-    }
+    Footprint::five(
+        Address(registers.counter),
+        operand(registers, 1),
+        pointer.full(),
+        pointer.plus(1).full(),
+        target,
+    )
 }
 
-// The same and the byte that the mode leads to; an immediate operand is read already.
-fn to_the_target(mode: AddressingMode, registers: Registers, memory: &[u8]) -> Footprint
-    requires { ⌜ length (now memory) ≡ fullMemory ⌝ }
+// The opcode, its operands and the two bytes of a pointer anywhere, which lie in one page.
+fn to_jump_pointer(pointer: Address, registers: Registers) -> Footprint
     ensures { λ r.
         ⌜ r
         ≡ footprintOf
         (registers .counter
-        ∷ (operands mode registers ++ pointers mode registers (now (memory .entry)) ++ reached mode registers (now (memory .entry)))) ⌝ }
+        ∷ operand registers 1
+        ∷ operand registers 2
+        ∷ pointerAt (page (pointer .0)) (low (pointer .0))) ⌝ }
 {
-    let way = on_the_way(mode, registers, memory);
-    if let AddressingMode::Immediate = mode {
-        return way;
-    }
-    way.and(Address(target_of(mode, registers, memory).address))
+    let high = pointer.high();
+    let low = pointer.low();
+    Footprint::five(
+        Address(registers.counter),
+        operand(registers, 1),
+        operand(registers, 2),
+        join(high, low),
+        join(high, std::num::wrapping_add_u8(low, 1)),
+    )
 }
 
-// What an instruction reads, its opcode first.
-pub(crate) fn reads_by(
-    instruction: Instruction,
-    mode: AddressingMode,
-    registers: Registers,
-    memory: &[u8],
-) -> Footprint
+// What is read by a way, the opcode first.
+pub(crate) fn reads_by(way: u8, registers: Registers, memory: &[u8]) -> Footprint
     requires { ⌜ length (now memory) ≡ fullMemory ⌝ }
-    ensures { λ r. ⌜ r ≡ footprintOf (registers .counter ∷ listed instruction mode registers (now (memory .entry))) ⌝ }
+    ensures { λ r. ⌜ r ≡ footprintOf (registers .counter ∷ readBy way registers (now (memory .entry))) ⌝ }
 {
     let opcode = Address(registers.counter);
-    match instruction {
-        Instruction::Read(_) => to_the_target(mode, registers, memory),
-        Instruction::Store(_) => on_the_way(mode, registers, memory),
-        Instruction::Modify(_) => {
-            if mode.extra_bytes() == 0 {
-                return Footprint::one(opcode);
-            }
-            to_the_target(mode, registers, memory)
-        }
-        Instruction::Branch(_) => on_the_way(mode, registers, memory),
-        Instruction::Internal(_) => Footprint::one(opcode),
-        Instruction::BRK => Footprint::three(opcode, Address(0xFFFE), Address(0xFFFF)),
-        Instruction::JMP => on_the_way(mode, registers, memory),
-        Instruction::JSR => Footprint::three(
+    let first = operand(registers, 1);
+    let second = operand(registers, 2);
+    match way {
+        NOTHING => Footprint::one(opcode),
+        ZERO_PAGE => Footprint::three(opcode, first, zero_page(registers, memory).full()),
+        ZERO_PAGE_X => Footprint::three(
             opcode,
-            operand_at(registers, 1),
-            operand_at(registers, 2),
+            first,
+            zero_page_plus(registers.x, registers, memory).full(),
         ),
-        Instruction::PHA => Footprint::one(opcode),
-        Instruction::PHP => Footprint::one(opcode),
-        Instruction::PLA => Footprint::two(opcode, above(registers, 1)),
-        Instruction::PLP => Footprint::two(opcode, above(registers, 1)),
-        Instruction::RTI => Footprint::four(
+        ZERO_PAGE_Y => Footprint::three(
+            opcode,
+            first,
+            zero_page_plus(registers.y, registers, memory).full(),
+        ),
+        ABSOLUTE => Footprint::four(opcode, first, second, absolute(registers, memory)),
+        ABSOLUTE_X => Footprint::four(
+            opcode,
+            first,
+            second,
+            indexed(absolute(registers, memory), registers.x),
+        ),
+        ABSOLUTE_Y => Footprint::four(
+            opcode,
+            first,
+            second,
+            indexed(absolute(registers, memory), registers.y),
+        ),
+        INDEXED_INDIRECT_X => {
+            let pointer = zero_page_plus(registers.x, registers, memory);
+            past_pointer(pointer, pointed(pointer, memory), registers)
+        }
+        INDIRECT_INDEXED_Y => {
+            let pointer = zero_page(registers, memory);
+            let target = indexed(pointed(pointer, memory), registers.y);
+            past_pointer(pointer, target, registers)
+        }
+        ONE_OPERAND => Footprint::two(opcode, first),
+        TWO_OPERANDS => Footprint::three(opcode, first, second),
+        POINTER_X => to_pointer(zero_page_plus(registers.x, registers, memory), registers),
+        POINTER_Y => to_pointer(zero_page(registers, memory), registers),
+        JUMP_INDIRECT => to_jump_pointer(absolute(registers, memory), registers),
+        PULL_ONE => Footprint::two(opcode, above(registers, 1)),
+        PULL_TWO => Footprint::three(opcode, above(registers, 1), above(registers, 2)),
+        PULL_THREE => Footprint::four(
             opcode,
             above(registers, 1),
             above(registers, 2),
             above(registers, 3),
         ),
-        Instruction::RTS => Footprint::three(opcode, above(registers, 1), above(registers, 2)),
+        VECTOR => Footprint::three(opcode, Address(IRQ_VECTOR), Address(IRQ_VECTOR + 1)),
+        _ => Footprint::one(opcode),
     }
 }

@@ -1,15 +1,18 @@
-// What an instruction stores to, in order: a store's target, a modified byte's, and what is pushed.
+// What is stored to by a way, in order: a store's target, a modified byte's, and what is pushed.
 ghost use mathlib.Core.Path.{_≡_};
 ghost use lib.ListN.{length};
 ghost use Rattle.manual.specs.Stepping.{fullMemory};
-ghost use Rattle.manual.specs.Theorems.Accesses.{threePushed, storedTo};
+ghost use Rattle.manual.specs.Theorems.Accesses.{threePushed};
 ghost use Rattle.footprint.specs.Places.{footprintOf};
+ghost use Rattle.footprint.specs.Ways.{storedBy};
+use crate::aims::above;
+use crate::aims::absolute;
+use crate::aims::indexed;
+use crate::aims::pointed;
+use crate::aims::zero_page;
+use crate::aims::zero_page_plus;
 use crate::places::Footprint;
-use crate::reading::above;
-use addressing::target_of;
-use instruction::AddressingMode;
-use instruction::Instruction;
-use memory::Address;
+use crate::ways::*;
 use memory::join;
 use registers::Registers;
 
@@ -25,39 +28,32 @@ pub(crate) fn pushes(registers: Registers) -> Footprint
     )
 }
 
-// What an instruction stores to.
-pub(crate) fn stores_by(
-    instruction: Instruction,
-    mode: AddressingMode,
-    registers: Registers,
-    memory: &[u8],
-) -> Footprint
+// What is stored to by a way.
+pub(crate) fn stores_by(way: u8, registers: Registers, memory: &[u8]) -> Footprint
     requires { ⌜ length (now memory) ≡ fullMemory ⌝ }
-    ensures { λ r. ⌜ r ≡ footprintOf (storedTo instruction mode registers (now (memory .entry))) ⌝ }
+    ensures { λ r. ⌜ r ≡ footprintOf (storedBy way registers (now (memory .entry))) ⌝ }
 {
     let stack = registers.stack;
     let top = join(1, stack.0);
-    match instruction {
-        Instruction::Read(_) => Footprint::none(),
-        Instruction::Store(_) => Footprint::one(Address(
-            target_of(mode, registers, memory).address,
+    match way {
+        NOTHING => Footprint::none(),
+        ZERO_PAGE => Footprint::one(zero_page(registers, memory).full()),
+        ZERO_PAGE_X => Footprint::one(zero_page_plus(registers.x, registers, memory).full()),
+        ZERO_PAGE_Y => Footprint::one(zero_page_plus(registers.y, registers, memory).full()),
+        ABSOLUTE => Footprint::one(absolute(registers, memory)),
+        ABSOLUTE_X => Footprint::one(indexed(absolute(registers, memory), registers.x)),
+        ABSOLUTE_Y => Footprint::one(indexed(absolute(registers, memory), registers.y)),
+        INDEXED_INDIRECT_X => Footprint::one(pointed(
+            zero_page_plus(registers.x, registers, memory),
+            memory,
         )),
-        Instruction::Modify(_) => {
-            if mode.extra_bytes() == 0 {
-                return Footprint::none();
-            }
-            Footprint::one(Address(target_of(mode, registers, memory).address))
-        }
-        Instruction::Branch(_) => Footprint::none(),
-        Instruction::Internal(_) => Footprint::none(),
-        Instruction::BRK => pushes(registers),
-        Instruction::JMP => Footprint::none(),
-        Instruction::JSR => Footprint::two(top, above(registers, 255)),
-        Instruction::PHA => Footprint::one(top),
-        Instruction::PHP => Footprint::one(top),
-        Instruction::PLA => Footprint::none(),
-        Instruction::PLP => Footprint::none(),
-        Instruction::RTI => Footprint::none(),
-        Instruction::RTS => Footprint::none(),
+        INDIRECT_INDEXED_Y => Footprint::one(indexed(
+            pointed(zero_page(registers, memory), memory),
+            registers.y,
+        )),
+        PUSH_ONE => Footprint::one(top),
+        PUSH_TWO => Footprint::two(top, above(registers, 255)),
+        PUSH_THREE => pushes(registers),
+        _ => Footprint::none(),
     }
 }

@@ -1,7 +1,7 @@
 // The values that the definition in specs/ and the code above it share, and how they are made. The definition itself is no code.
 ghost use mathlib.Core.Path.{_≡_};
 ghost use Rattle.manual.specs.Outcomes.{leavesAt, leaves, machineOf, number, isMade, stepped, ended};
-ghost use Rattle.manual.specs.Interrupts.{idle};
+ghost use Rattle.manual.specs.Interrupts.{idle, due};
 use registers::Registers;
 
 // The length of a whole memory, the highest cycle count from which a step is made, and the highest bound of a run.
@@ -127,6 +127,21 @@ impl Lines {
             irq: true,
             nmi: true,
         }
+    }
+    // What is due before an opcode. Idle lines come first, since nothing else need be looked at then.
+    pub fn due(self, machine: Machine) -> Due
+        ensures { λ r. ⌜ r ≡ due self machine ⌝ }
+    {
+        if self.nmi && self.irq {
+            return Due::Quiet;
+        }
+        if machine.nmi && !self.nmi {
+            return Due::Through(NMI_VECTOR);
+        }
+        if !self.irq && !machine.registers.status.disable {
+            return Due::Through(IRQ_VECTOR);
+        }
+        Due::Quiet
     }
 }
 

@@ -1,7 +1,8 @@
 -- Laws that the code's proofs cite.
 use Prim.Native.Nat.{ℕ, zero, suc, min, _+_, _-_, _≤_, _<_}
-use mathlib.Core.Path.{_≡_, refl, ap, sym, _∙_, fun-ext}
-use mathlib.Core.Bool.{Bool, true, false, cond, _&&_, _||_}
+use mathlib.Core.Path.{_≡_, refl, ap, sym, _∙_, subst, fun-ext}
+use mathlib.Core.Bool.{Bool, true, false, not, cond, _&&_, _||_}
+use mathlib.Core.Logic.{inl, inr}
 use mathlib.Core.List.{List, [], _∷_}
 use native.Mathlib.Numerals.{add-one}
 use native.Mathlib.Omega.{arith}
@@ -9,19 +10,32 @@ use borrow.Author.Tests.{eq-eqb, ne-eqb, le-leb, lt-leb}
 use lib.Dec.{leb}
 use lib.ListN.{getD, length, length-take, take, drop, replicate}
 use lib.Seq.{drop-cons, getD-take}
+use Rattle.registers.specs.declared.Registers.{Registers}
 use Rattle.manual.specs.declared.Lines.{Lines}
 use Rattle.manual.specs.declared.Machine.{Machine}
 use Rattle.manual.specs.declared.Stepped.{Stepped}
-use Rattle.manual.specs.declared.Reason.the-variants.{Made, MemoryNotFull, BoundTooHigh}
-use Rattle.manual.specs.Micro.{Micro, exec, Gives}
+use Rattle.manual.specs.declared.Ended.{Ended}
+use Rattle.manual.specs.declared.Due.{Due}
+use Rattle.manual.specs.declared.Due.the-variants.{Through, Quiet}
+use Rattle.manual.specs.declared.Reason.the-variants.{Made, MemoryNotFull, NoCycleRoom, BoundTooHigh}
+use Rattle.manual.specs.Micro.{exec, Gives}
 use Rattle.manual.specs.Words.{page}
-use Rattle.manual.specs.Outcomes.{isMade}
-use Rattle.manual.specs.Stepping.{fullMemory, highestBound, stepFull, step}
-use Rattle.manual.specs.Theorems.StepLaws.{step-whole}
-use Rattle.manual.specs.ReadList.{listedStepFull}
+use Rattle.manual.specs.Outcomes.{machineOf, isMade}
+use Rattle.manual.specs.Interrupts.{idle, nmiVector, irqVector, falls, calls, due}
+use Rattle.manual.specs.Stepping.{fullMemory, highestCount, highestBound, stepFull}
+use Rattle.manual.specs.ReadList.{listedDue, listedStepFull}
+use Rattle.manual.specs.Theorems.Answers.{Way, late, serves, undefined, ready, way, not-quiet}
+use Rattle.manual.specs.Theorems.StepLaws.{due-none, step-late, step-undefined, step-defined}
+use Rattle.footprint.specs.Places.{footprintOf, addresses}
+use Rattle.footprint.specs.Laws.{late-list, due-list}
+use Rattle.footprint.specs.Theorems.{full-kept}
+use Rattle.cpu.specs.Turning.{raised, stretch, Calm, reach, some}
 use Rattle.witness.specs.declared.Watched.{Watched}
+use Rattle.witness.specs.declared.Halt.{Halt}
+use Rattle.witness.specs.declared.seals.Seen.{Seen}
 use Rattle.witness.specs.declared.seals.Seen.the-variants.{Nothing, At}
-use Rattle.witness.specs.Guarded.{inPages, inStretch, inEither, firstSealed, ran, halted, guardedFull, longGuarded, guarded}
+use Rattle.witness.specs.Guarded.{inPages, inStretch, inEither, firstSealed, ran, halted, unless, guardedFull, longGuarded, guarded}
+use Rattle.witness.specs.Theorems.{never}
 
 -- ---- what is sealed
 
@@ -85,35 +99,189 @@ module _ (seal : ℕ → Bool) where
         → firstSealed seal (drop i (take count places)) ≡ firstSealed seal (drop (i + 1) (take count places))
     first-next h g e = ap (firstSealed seal) (at-place h g) ∙ first-later (getD places i 0) _ e
 
--- ---- the loop
+-- ---- the next step
 
-module _ (seal : ℕ → Bool) (bound k : ℕ) (lines : Lines) (s : Machine) (m : List ℕ) (l : k < bound) where
-  one-more : bound - k ≡ suc (bound - (k + 1))
-  one-more = omega arith
-
-  pub guarded-halts : (a : ℕ) → firstSealed seal (listedStepFull lines s m) ≡ At a → guardedFull seal (bound - k) k lines s m ≡ (halted a k s, m)
+module _ (seal : ℕ → Bool) (n k : ℕ) (lines : Lines) (s : Machine) (m : List ℕ) where
+  pub guarded-halts : (a : ℕ) → firstSealed seal (listedStepFull lines s m) ≡ At a → guardedFull seal (suc n) k lines s m ≡ (halted a k s, m)
   unfolding guardedFull
-  guarded-halts a e = rw one-more (rw e)
+  guarded-halts a e = rw e
 
   -- what a step gives, by its answer
   abbrev goes : Stepped × List ℕ → Watched × List ℕ
-  goes w = cond (isMade (w .0 .reason)) (guardedFull seal (bound - (k + 1)) (k + 1) lines (w .0 .machine) (w .1)) (ran (w .0 .reason) k (w .0 .machine), w .1)
+  goes w = cond (isMade (w .0 .reason)) (guardedFull seal n (k + 1) lines (w .0 .machine) (w .1)) (ran (w .0 .reason) k (w .0 .machine), w .1)
 
   module _ (q : Stepped) (m′ : List ℕ) (e : firstSealed seal (listedStepFull lines s m) ≡ Nothing) (g : Gives (stepFull lines s) m q m′) where
-    steps-on : guardedFull seal (bound - k) k lines s m ≡ goes (q, m′)
+    steps-on : guardedFull seal (suc n) k lines s m ≡ goes (q, m′)
     unfolding guardedFull
-    steps-on = rw one-more (rw e (ap goes g))
+    steps-on = rw e (ap goes g)
 
-    pub guarded-goes-on : isMade (q .reason) ≡ true
-        → guardedFull seal (bound - k) k lines s m ≡ guardedFull seal (bound - (k + 1)) (k + 1) lines (q .machine) m′
+    pub guarded-goes-on : isMade (q .reason) ≡ true → guardedFull seal (suc n) k lines s m ≡ guardedFull seal n (k + 1) lines (q .machine) m′
     guarded-goes-on h = steps-on ∙ rw h
 
-    pub guarded-stops : isMade (q .reason) ≡ false → guardedFull seal (bound - k) k lines s m ≡ (ran (q .reason) k (q .machine), m′)
+    pub guarded-stops : isMade (q .reason) ≡ false → guardedFull seal (suc n) k lines s m ≡ (ran (q .reason) k (q .machine), m′)
     guarded-stops h = steps-on ∙ rw h
+
+  -- a step for which there is no room reads nothing
+  pub guarded-late : highestCount < s .cycles → guardedFull seal (suc n) k lines s m ≡ (ran NoCycleRoom k s, m)
+  unfolding firstSealed
+  guarded-late h = guarded-stops _ _ (ap (firstSealed seal) (late-list lines s m h)) (step-late lines s m h) refl
 
 pub guarded-end : (seal : ℕ → Bool) (k : ℕ) (lines : Lines) (s : Machine) (m : List ℕ) → guardedFull seal 0 k lines s m ≡ (ran Made k s, m)
 unfolding guardedFull
 guarded-end seal k lines s m = refl
+
+-- before the bound there is one more step
+pub one-more : (bound k : ℕ) → k < bound → bound - k ≡ suc (bound - (k + 1))
+one-more bound k l = omega arith
+
+-- what the byte at the counter reads is kept whole by a footprint
+pub quiet-kept : (r : Registers) (m : List ℕ) → addresses (footprintOf (listedDue Quiet r m)) ≡ listedDue Quiet r m
+quiet-kept r m = full-kept idle (machineOf r 0 true) m
+
+-- the first sealed address of what is read by what is due is that of the step
+pub seen-due : (seal : ℕ → Bool) (lines : Lines) (s : Machine) (m : List ℕ) (d : Due) {x : Seen} → s .cycles ≤ highestCount
+    → due lines s ≡ d
+    → x ≡ firstSealed seal (listedDue d (s .registers) m)
+    → firstSealed seal (listedStepFull lines s m) ≡ x
+seen-due seal lines s m d room is h = ap (firstSealed seal) (due-list lines s m d room is) ∙ sym h
+
+-- ---- with IRQ high
+
+-- where nothing is due, NMI does not fall
+pub quiet-held : (lines : Lines) (s : Machine) → due lines s ≡ Quiet → falls lines s ≡ false
+quiet-held lines s e = go (falls lines s) (calls lines s) e
+  where
+    go : (t u : Bool) → cond t (Through nmiVector) (cond u (Through irqVector) Quiet) ≡ Quiet → t ≡ false
+    go true u h = absurd (not-quiet _ nmiVector h refl)
+    go false u h = refl
+
+pub held-quiet : (nmi : Bool) (s : Machine) → (s .nmi && not nmi) ≡ false → due (raised nmi) s ≡ Quiet
+held-quiet nmi s e = due-none (raised nmi) s e refl
+
+-- nor does it after a step, when the last level is the present one
+pub level-held : (begun was nmi : Bool) → (was && not nmi) ≡ false → (cond begun nmi was && not nmi) ≡ false
+level-held true was true e = refl
+level-held true was false e = refl
+level-held false was nmi e = e
+
+module _ (lines : Lines) (s : Machine) (m : List ℕ) (none : due lines s ≡ Quiet) where
+  abbrev high : Lines
+  high = raised (lines .nmi)
+
+  also : due high s ≡ Quiet
+  also = held-quiet (lines .nmi) s (quiet-held lines s none)
+
+  same-list : listedStepFull lines s m ≡ listedStepFull high s m
+  same-list = rw (none, also)
+
+  same-step : exec (stepFull lines s) m ≡ exec (stepFull high s) m
+  same-step = by-way (way lines s m)
+    where
+      by-way : Way lines s m → exec (stepFull lines s) m ≡ exec (stepFull high s) m
+      by-way (late h) = step-late lines s m h ∙ sym (step-late high s m h)
+      by-way (serves h) = absurd (not-quiet (due lines s) (h .1 .0) none (h .1 .1))
+      by-way (undefined h) = step-undefined lines s m (h .0) none (h .2) ∙ sym (step-undefined high s m (h .0) also (h .2))
+      by-way (ready h) =
+          step-defined lines s m (h .2 .0) (h .0) none (h .2 .1) refl ∙ sym (step-defined high s m (h .2 .0) (h .0) also (h .2 .1) refl)
+
+  one-step : (seal : ℕ → Bool) (k : ℕ) → guardedFull seal 1 k lines s m ≡ guardedFull seal 1 k high s m
+  unfolding guardedFull
+  one-step seal k = rw (same-list, same-step)
+
+  -- the steps between which no line can become due are those with IRQ high
+  pub calm-steps : (seal : ℕ → Bool) (n k : ℕ) → Calm lines n → guardedFull seal n k lines s m ≡ guardedFull seal n k high s m
+  calm-steps seal n k (inl e) = ap (λ (irq : Bool). guardedFull seal n k (record { irq = irq; nmi = lines .nmi }) s m) e
+  calm-steps seal n k (inr e) = rw e (one-step seal k)
+
+-- ---- some steps, and then more
+
+module _ (seal : ℕ → Bool) (lines : Lines) where
+  -- what n more steps give after a result
+  abbrev pub onward : ℕ → Watched × List ℕ → Watched × List ℕ
+  onward n (Watched.Ran q, m) = cond (isMade (q .reason)) (guardedFull seal n (q .steps) lines (q .machine) m) (Watched.Ran q, m)
+  onward n (Watched.Halted h, m) = (Watched.Halted h, m)
+
+  -- what a step gives and k steps after it, by the first sealed address and its answer
+  abbrev then : ℕ → ℕ → Machine → List ℕ → Stepped → List ℕ → Seen → Bool → Watched × List ℕ
+  then j k s m q e x t = unless x (λ a. (halted a k s, m)) (cond t (guardedFull seal j (k + 1) lines (q .machine) e) (ran (q .reason) k (q .machine), e))
+
+  then-onward : (j n k : ℕ) (s : Machine) (m : List ℕ) (q : Stepped) (e : List ℕ) (x : Seen) (t : Bool) → isMade (q .reason) ≡ t
+      → guardedFull seal (j + n) (k + 1) lines (q .machine) e ≡ onward n (guardedFull seal j (k + 1) lines (q .machine) e)
+      → then (j + n) k s m q e x t ≡ onward n (then j k s m q e x t)
+  then-onward j n k s m q e (At a) t is h = refl
+  then-onward j n k s m q e Nothing true is h = h
+  then-onward j n k s m q e Nothing false is h = rw is
+
+  pub guarded-onward : (j n k : ℕ) (s : Machine) (m : List ℕ) → guardedFull seal (j + n) k lines s m ≡ onward n (guardedFull seal j k lines s m)
+  unfolding guardedFull
+  guarded-onward zero n k s m = let e : 0 + n ≡ n = omega arith in rw e (sym (ap (onward n) (guarded-end seal k lines s m)))
+  guarded-onward (suc j) n k s m =
+      let w = exec (stepFull lines s) m in
+      let e : suc j + n ≡ suc (j + n) = omega arith in
+      rw e (then-onward j n k s m (w .0) (w .1) (firstSealed seal (listedStepFull lines s m)) (isMade (w .0 .reason)) refl (guarded-onward j n (k + 1) (w .0 .machine) (w .1)))
+
+  -- where all of some steps were made, they were so many
+  abbrev Counted : ℕ → Watched × List ℕ → Type 0
+  Counted k (Watched.Ran q, m) = isMade (q .reason) ≡ true → q .steps ≡ k
+  Counted k (Watched.Halted h, m) = Unit {0}
+
+  then-counted : (j k i : ℕ) (s : Machine) (m : List ℕ) (q : Stepped) (e : List ℕ) (x : Seen) (t : Bool) → isMade (q .reason) ≡ t
+      → Counted i (guardedFull seal j (k + 1) lines (q .machine) e)
+      → Counted i (then j k s m q e x t)
+  then-counted j k i s m q e (At a) t is h = tt
+  then-counted j k i s m q e Nothing true is h = h
+  then-counted j k i s m q e Nothing false is h = λ f. never (sym f ∙ is)
+
+  pub guarded-counted : (j k : ℕ) (s : Machine) (m : List ℕ) → Counted (k + j) (guardedFull seal j k lines s m)
+  unfolding guardedFull
+  guarded-counted zero k s m = λ e. omega arith
+  guarded-counted (suc j) k s m =
+      let w = exec (stepFull lines s) m in
+      let one : k + 1 + j ≡ k + suc j = omega arith in
+      then-counted j k (k + suc j) s m (w .0) (w .1) (firstSealed seal (listedStepFull lines s m)) (isMade (w .0 .reason)) refl
+      (subst (λ (i : ℕ). Counted i (guardedFull seal j (k + 1) lines (w .0 .machine) (w .1))) one (guarded-counted j (k + 1) (w .0 .machine) (w .1)))
+
+-- ---- a run by turns
+
+module _ (seal : ℕ → Bool) (bound k : ℕ) (lines : Lines) (s : Machine) (m : List ℕ) (l : k < bound) where
+  -- the steps of a turn, of those that are left
+  abbrev pub turnOf : ℕ
+  turnOf = stretch (due lines s) (reach (lines .irq) (bound - k))
+
+  some-left : (0 < turnOf) × (turnOf ≤ bound - k)
+  some-left = some lines s (bound - k) (omega arith) (due lines s) (lines .irq)
+
+  module _ (w : Watched × List ℕ) (g : w ≡ guardedFull seal turnOf k lines s m) where
+    turn-onward : guardedFull seal (bound - k) k lines s m ≡ onward seal lines (bound - k - turnOf) w
+    turn-onward =
+        let e : bound - k ≡ turnOf + (bound - k - turnOf) = omega (arith, some-left .1) in
+        ap (λ (i : ℕ). guardedFull seal i k lines s m) e
+        ∙ guarded-onward seal lines turnOf (bound - k - turnOf) k s m
+        ∙ ap (onward seal lines (bound - k - turnOf)) (sym g)
+
+  -- where it was halted or stopped, so is the run
+  pub turn-halts : (h : Halt) (e : List ℕ) → (Watched.Halted h, e) ≡ guardedFull seal turnOf k lines s m
+      → guardedFull seal (bound - k) k lines s m ≡ (Watched.Halted h, e)
+  turn-halts h e g = turn-onward (Watched.Halted h, e) g
+
+  module _ (q : Ended) (e : List ℕ) (g : (Watched.Ran q, e) ≡ guardedFull seal turnOf k lines s m) where
+    pub turn-stops : isMade (q .reason) ≡ false → guardedFull seal (bound - k) k lines s m ≡ (Watched.Ran q, e)
+    turn-stops f = turn-onward (Watched.Ran q, e) g ∙ rw f
+
+    counted : isMade (q .reason) ≡ true → q .steps ≡ k + turnOf
+    counted = subst (Counted seal lines (k + turnOf)) (sym g) (guarded-counted seal lines turnOf k s m)
+
+    -- where it was not, it has made a step, and the run goes on from the machine that it left
+    pub turn-goes : isMade (q .reason) ≡ true
+        → (k < q .steps) × (q .steps ≤ bound)
+        × (guardedFull seal (bound - k) k lines s m ≡ guardedFull seal (bound - q .steps) (q .steps) lines (q .machine) e)
+    turn-goes f =
+        let made = counted f in
+        let rest : bound - k - turnOf ≡ bound - q .steps = omega (arith, made, some-left .1) in (
+          omega (arith, made, some-left .0),
+          omega (arith, made, some-left .1),
+          turn-onward (Watched.Ran q, e) g ∙ rw f (ap (λ (i : ℕ). guardedFull seal i (q .steps) lines (q .machine) e) rest),
+        )
 
 -- ---- the tests before the first step
 
@@ -137,8 +305,3 @@ module _ (seal : ℕ → Bool) (size bound : ℕ) (lines : Lines) (s : Machine) 
   pub long-whole : size ≡ fullMemory → longGuarded seal size bound lines s m ≡ guardedFull seal bound 0 lines s m
   unfolding longGuarded
   long-whole e = simp (eq-eqb _ _ e)
-
--- a step on a full memory
-pub full-step : (lines : Lines) (s : Machine) (m : List ℕ) {q : Stepped} {m′ : List ℕ} → length m ≡ fullMemory → Gives (step (length m) lines s) m q m′
-    → Gives (stepFull lines s) m q m′
-full-step lines s m e g = sym (ap (λ (p : Micro Stepped). exec p m) (step-whole (length m) lines s e)) ∙ g

@@ -1,18 +1,33 @@
 // A run that is halted before a step that would read a sealed byte, so that nothing it gives was made with one.
 ghost use mathlib.Core.Path.{_≡_};
+ghost use mathlib.Core.Bool.{false, not, cond, _&&_};
+ghost use Prim.Native.Nat.{_+_, _-_, _<_};
 ghost use lib.ListN.{length};
+ghost use Rattle.manual.specs.Outcomes.{machineOf};
+ghost use Rattle.manual.specs.Interrupts.{due};
 ghost use Rattle.manual.specs.Stepping.{fullMemory};
-ghost use Rattle.witness.specs.Guarded.{inPages, inStretch, inEither, ran, halted, guardedFull, guarded, longGuarded};
-use cpu::single_step;
-use footprint::reads_full;
+ghost use Rattle.manual.specs.ReadList.{listedDue};
+ghost use Rattle.cpu.specs.Turning.{raised, Calm, stretch};
+ghost use Rattle.witness.specs.Guarded.{inPages, inStretch, inEither, firstSealed, ran, halted, guardedFull, guarded, longGuarded};
+use cpu::dispatch;
+use cpu::reach;
+use footprint::reads_quiet;
+use footprint::reads_through;
+use manual::Due;
 use manual::Ended;
 use manual::FULL_MEMORY;
 use manual::HIGHEST_BOUND;
+use manual::HIGHEST_COUNT;
 use manual::Lines;
 use manual::Machine;
 use manual::Reason;
+use memory::Address;
+use memory::get_byte;
+use registers::Registers;
+use rows::Dispatched;
 use seals::Seen;
 use seals::first_sealed;
+use stack::serve;
 
 pub mod seals; // seals.rt: what is sealed
 
@@ -49,7 +64,129 @@ impl Watched {
     }
 }
 
-// At most `bound` steps on a full memory.
+// The first sealed address that the byte at the counter reads, where no line is due.
+fn ahead(pages: &[u8; 256], first: u16, last: u16, registers: Registers, memory: &[u8]) -> Seen
+    requires { ⌜ length (now memory) ≡ fullMemory ⌝ }
+    ensures { λ r.
+        ⌜ r
+        ≡ firstSealed (inEither (now (pages .entry)) first last) (listedDue Due.Quiet registers (now (memory .entry))) ⌝ }
+{
+    first_sealed(pages, first, last, reads_quiet(registers, memory))
+}
+
+// The machine after some steps of a patrol: where one was made it has the present level of NMI.
+fn kept(begun: bool, start: Machine, nmi: bool, registers: Registers, cycles: u64) -> Machine
+    ensures { λ r. ⌜ r ≡ machineOf registers cycles (cond begun nmi (start .nmi)) ⌝ }
+{
+    if begun {
+        return Machine::new(registers, cycles, nmi);
+    }
+    Machine::new(registers, cycles, start.nmi)
+}
+
+// The steps from `made` to `bound` on a full memory, with IRQ high and NMI not falling. The compiler puts the footprint and all
+// that a step does into this loop, as it does in cpu's: so no line is looked at in it, and `dispatch` has no other caller in
+// what is linked.
+fn patrol(
+    start: Machine,
+    nmi: bool,
+    made: u64,
+    bound: u64,
+    pages: &[u8; 256],
+    first: u16,
+    last: u16,
+    memory: &mut [u8],
+) -> Watched
+    requires { ⌜ (length (now memory) ≡ fullMemory) × ((start .nmi && not nmi) ≡ false) ⌝ }
+    ensures { λ r.
+        ⌜ (r, now (memory .exit))
+        ≡ guardedFull (inEither (now (pages .entry)) first last) (bound - made) made (raised nmi) start (now (memory .entry)) ⌝ }
+{
+    let given = start.registers;
+    let mut registers = given.kept_apart();
+    let mut cycles = start.cycles;
+    let mut steps = made;
+    while steps < bound {
+        if HIGHEST_COUNT < cycles {
+            let left = kept(made < steps, start, nmi, registers, cycles);
+            return Watched::ran(Reason::NoCycleRoom, steps, left);
+        }
+        let seen = ahead(pages, first, last, registers, memory);
+        if let Seen::At(place) = seen {
+            let left = kept(made < steps, start, nmi, registers, cycles);
+            return Watched::halted(place, steps, left);
+        }
+        let opcode = get_byte(memory, Address(registers.counter));
+        match dispatch(opcode, registers, memory) {
+            Dispatched::Performed(performed) => {
+                let after = performed.registers;
+                registers = after.kept_apart();
+                cycles += performed.cycles as u64;
+                steps += 1;
+            }
+            Dispatched::NotAnOpcode => {
+                let left = kept(made < steps, start, nmi, registers, cycles);
+                return Watched::ran(Reason::NotAnOpcode, steps, left);
+            }
+        }
+    }
+    let left = kept(made < steps, start, nmi, registers, cycles);
+    Watched::ran(Reason::Made, steps, left)
+}
+
+// A line is served, which is the step after `steps`, unless a byte of its vector is sealed.
+fn serve_line(
+    vector: u16,
+    start: Machine,
+    steps: u64,
+    lines: Lines,
+    pages: &[u8; 256],
+    first: u16,
+    last: u16,
+    memory: &mut [u8],
+) -> Watched
+    requires { ⌜ (length (now memory) ≡ fullMemory) × (due lines start ≡ Due.Through vector) × (steps + 1 < 18446744073709551616) ⌝ }
+    ensures { λ r.
+        ⌜ (r, now (memory .exit))
+        ≡ guardedFull (inEither (now (pages .entry)) first last) 1 steps lines start (now (memory .entry)) ⌝ }
+{
+    if HIGHEST_COUNT < start.cycles {
+        return Watched::ran(Reason::NoCycleRoom, steps, start);
+    }
+    let seen = first_sealed(pages, first, last, reads_through(vector));
+    if let Seen::At(place) = seen {
+        return Watched::halted(place, steps, start);
+    }
+    let registers = serve(vector, start.registers, memory);
+    let left = Machine::new(registers, start.cycles + 7, lines.nmi);
+    Watched::ran(Reason::Made, steps + 1, left)
+}
+
+// A turn, after cpu's: a line that is due is served, or the steps to `bound` are made, between which no line can become due.
+fn turn(
+    start: Machine,
+    steps: u64,
+    bound: u64,
+    lines: Lines,
+    pages: &[u8; 256],
+    first: u16,
+    last: u16,
+    memory: &mut [u8],
+) -> Watched
+    requires { ⌜ (length (now memory) ≡ fullMemory) × Calm lines (bound - steps) × (steps < bound) ⌝ }
+    ensures { λ r.
+        ⌜ (r, now (memory .exit))
+        ≡ guardedFull (inEither (now (pages .entry)) first last) (stretch (due lines start) (bound - steps)) steps lines start (now (memory .entry)) ⌝ }
+{
+    match lines.due(start) {
+        Due::Through(vector) => {
+            serve_line(vector, start, steps, lines, pages, first, last, memory)
+        }
+        Due::Quiet => patrol(start, lines.nmi, steps, bound, pages, first, last, memory),
+    }
+}
+
+// At most `bound` steps on a full memory, turn by turn.
 fn walk(
     start: Machine,
     bound: u64,
@@ -67,18 +204,21 @@ fn walk(
     let mut machine = start;
     let mut steps: u64 = 0;
     while steps < bound {
-        let footprint = reads_full(machine, lines, memory);
-        let ahead = first_sealed(pages, first, last, footprint);
-        if let Seen::At(place) = ahead {
-            return Watched::halted(place, steps, machine);
+        let far = steps + reach(lines.irq, bound - steps);
+        let turned = turn(machine, steps, far, lines, pages, first, last, memory);
+        match turned {
+            Watched::Ran(ended) => {
+                let reason = ended.reason;
+                if !reason.is_made() {
+                    return turned;
+                }
+                machine = ended.machine;
+                steps = ended.steps;
+            }
+            Watched::Halted(_) => {
+                return turned;
+            }
         }
-        let stepped = single_step(machine, lines, memory);
-        let reason = stepped.reason;
-        machine = stepped.machine;
-        if !reason.is_made() {
-            return Watched::ran(reason, steps, machine);
-        }
-        steps += 1;
     }
     Watched::ran(Reason::Made, steps, machine)
 }

@@ -32,7 +32,7 @@ returns-4 c =
     let c₃ = c .before .before .before in
     let c₆ = c₃ .before .before .before in
     let a = c₆ .before .before .args in
-    c .stores-at-counter .ensures
+    c .stores-quiet .ensures
     ∙ ap footprintOf
     (sym (due-stores _ (a .lines) (a .machine) (now (a .memory)) _ (c₆ .if1 .left) (c₃ .before .if2 .left) (sym (c₃ .due .ensures) ∙ c .before .enum-told2 .given .1)))
 

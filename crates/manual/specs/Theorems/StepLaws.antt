@@ -1,7 +1,7 @@
 -- What a step and a run give, by the tests that they make: the laws behind the answers, and those that the code's proofs cite.
 use Prim.Native.Nat.{ℕ, suc, _+_, _≤_, _<_}
 use mathlib.Core.Path.{_≡_, refl, _∙_}
-use mathlib.Core.Bool.{true, false}
+use mathlib.Core.Bool.{Bool, true, false, _&&_}
 use mathlib.Core.List.{List}
 use borrow.Author.Tests.{lt-ltb, le-ltb, le-leb, lt-leb, eq-eqb, ne-eqb}
 use lib.ListN.{getD}
@@ -53,6 +53,17 @@ due-irq lines s f c = rw (f, c)
 
 pub due-none : (lines : Lines) (s : Machine) → falls lines s ≡ false → calls lines s ≡ false → due lines s ≡ Quiet
 due-none lines s f c = rw (f, c)
+
+-- two tests, one after the other
+pub both : (a b : Bool) → a ≡ true → b ≡ true → (a && b) ≡ true
+both a b e f = rw (e, f)
+
+pub first-not : (a b : Bool) → a ≡ false → (a && b) ≡ false
+first-not a b e = rw e
+
+pub second-not : (a b : Bool) → b ≡ false → (a && b) ≡ false
+second-not true b e = e
+second-not false b e = refl
 
 -- where there is room, a step is what is due
 pub step-attends : (lines : Lines) (s : Machine) (d : Due) → s .cycles ≤ highestCount → due lines s ≡ d → stepFull lines s ≡ attend d lines s

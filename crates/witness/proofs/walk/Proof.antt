@@ -1,23 +1,21 @@
 -- The loop's invariant: what the whole watched run gives is what the steps that are left give from here.
-use Prim.Native.Nat.{ℕ, _≤_, _-_}
-use mathlib.Core.Path.{_≡_, ap, sym, _∙_}
-use mathlib.Core.Bool.{Bool}
+use Prim.Native.Nat.{ℕ, _+_, _-_, _≤_, _<_}
+use mathlib.Core.Path.{_≡_, ap, sym, _∙_, subst}
+use mathlib.Core.Bool.{Bool, true, false}
 use mathlib.Core.List.{List}
 use native.Mathlib.Omega.{arith}
 use denote.Ref.{now}
 use lib.ListN.{length}
 use borrow.Author.Needs.{needs}
 use borrow.Author.Tests.{not-true, not-false}
-use Rattle.manual.specs.Stepping.{fullMemory}
 use Rattle.manual.specs.declared.Lines.{Lines}
 use Rattle.manual.specs.declared.Machine.{Machine}
-use Rattle.manual.specs.ReadList.{listedStepFull}
-use Rattle.footprint.specs.declared.places.Footprint.{Footprint}
-use Rattle.footprint.specs.Places.{footprintOf, addresses}
-use Rattle.footprint.specs.Theorems.{full-kept}
-use Rattle.witness.specs.declared.seals.Seen.{Seen}
-use Rattle.witness.specs.Guarded.{inEither, firstSealed, guardedFull}
-use Rattle.witness.specs.Laws.{guarded-halts, guarded-goes-on, guarded-stops, guarded-end, full-step}
+use Rattle.manual.specs.Interrupts.{due}
+use Rattle.manual.specs.Stepping.{fullMemory}
+use Rattle.cpu.specs.Turning.{stretch, Calm, reach, reach-calm}
+use Rattle.witness.specs.declared.Watched.{Watched}
+use Rattle.witness.specs.Guarded.{inEither, guardedFull}
+use Rattle.witness.specs.Laws.{guarded-end, turn-halts, turn-stops, turn-goes}
 use Rattle.witness.proofs.walk.Statement.{statement}
 use Rattle.witness.proofs.walk.Tie as tie
 
@@ -30,109 +28,157 @@ Inv-loop bound lines pages first last memory₀ machine₀ steps₀ memory machi
 abbrev μ-loop : tie.MeasureT-loop
 μ-loop bound lines pages first last memory₀ machine₀ steps₀ memory machine steps = bound - steps
 
--- the first sealed address of the footprint is that of what the step reads
-looked-at : (seal : ℕ → Bool) (lines : Lines) (s : Machine) (m : List ℕ) {f : Footprint} {x : Seen} → f ≡ footprintOf (listedStepFull lines s m)
-    → x ≡ firstSealed seal (addresses f)
-    → firstSealed seal (listedStepFull lines s m) ≡ x
-looked-at seal lines s m e h = ap (firstSealed seal) (sym (full-kept lines s m) ∙ ap addresses (sym e)) ∙ sym h
-
 loop-holds : tie.Need-loop-holds Inv-loop μ-loop
 loop-holds c =
-    let a = c .before .args in
-    let all : a .bound - 0 ≡ a .bound = omega arith in
-    (omega arith, c .before .pre, rw all)
+    let s = c .before in
+    let all : s .args .bound - 0 ≡ s .args .bound = omega arith in
+    (omega arith, s .pre, rw all)
 
-reads-full-requires : tie.Need-reads-full-requires Inv-loop μ-loop
-reads-full-requires c κs = c .before .before .loop .inv .1
+module _ (c : tie.After-reach Inv-loop μ-loop) where
+  abbrev looped : tie.At-loop Inv-loop μ-loop
+  looped = c .before .before
+
+  abbrev s : tie.Start Inv-loop μ-loop
+  s = looped .before .before
+
+  abbrev k : ℕ
+  k = looped .loop .steps
+
+  -- the steps that are left
+  abbrev n : ℕ
+  n = s .args .bound - k
+
+  before : k < s .args .bound
+  before = c .before .loop-test .taken
+
+  few : (0 < c .reach .result) × (c .reach .result ≤ n)
+  few = by-level (s .args .lines .irq) (c .reach .ensures)
+    where
+      by-level : (irq : Bool) → c .reach .result ≡ reach irq n → (0 < c .reach .result) × (c .reach .result ≤ n)
+      by-level true e = (omega (arith, before, e), omega (arith, e))
+      by-level false e = (omega (arith, e), omega (arith, before, e))
+
+  span : k + c .reach .result - k ≡ reach (s .args .lines .irq) n
+  span = let e : k + c .reach .result - k ≡ c .reach .result = omega arith in e ∙ c .reach .ensures
+
+add-far : tie.Need-add-far Inv-loop μ-loop
+add-far c = omega (arith, few c .1, before c, s c .fits .bound .fits)
+
+turn-requires : tie.Need-turn-requires Inv-loop μ-loop
+turn-requires c κs =
+    let r = c .before in (
+      looped r .loop .inv .1,
+      subst (λ (i : ℕ). Calm (s r .args .lines) i) (sym (span r)) (reach-calm (s r .args .lines) (looped r .loop .machine) (n r) (omega (arith, before r))),
+      omega (arith, few r .0),
+    )
+
+module _ (c : tie.After-turn Inv-loop μ-loop) where
+  abbrev r : tie.After-reach Inv-loop μ-loop
+  r = c .before .before
+
+  abbrev seal : ℕ → Bool
+  seal = inEither (now (s r .args .pages)) (s r .args .first) (s r .args .last)
+
+  abbrev lines : Lines
+  lines = s r .args .lines
+
+  abbrev machine : Machine
+  machine = looped r .loop .machine
+
+  abbrev after : List ℕ
+  after = c .turn .last .1 .1 .1 .1 .1 .1 .1 .0
+
+  gives : {w : Watched} → c .turn .result ≡ w
+      → (w, after) ≡ guardedFull seal (stretch (due lines machine) (reach (lines .irq) (n r))) (k r) lines machine (looped r .loop .memory)
+  gives e =
+      ap (λ (w : Watched). (w, after)) (sym e)
+      ∙ c .turn .ensures
+      ∙ ap (λ (i : ℕ). guardedFull seal (stretch (due lines machine) i) (k r) lines machine (looped r .loop .memory)) (span r)
+
+  kept : length after ≡ fullMemory
+  kept = omega (arith, c .turn .kept .1 .1 .1 .1 .1 .1 .1 .0, looped r .loop .inv .1)
 
 same-length : tie.Need-same-length Inv-loop μ-loop
 same-length c =
-    let c₈ = c .before .before .before .before .before .before .before .before in
-    c₈ .loop .inv .1 ∙ sym (c₈ .before .before .pre)
+    let d = c .before .before .before .before .before .before .before in
+    omega (arith, kept d, s (r d) .pre)
 
 returns : tie.Need-returns Inv-loop μ-loop
 returns c =
-    let c₂ = c .before .before in
-    let c₄ = c₂ .before .before in
-    let c₈ = c₄ .before .before .before .before in
-    let a = c₈ .before .before .args in
-    let seal = inEither (now (a .pages)) (a .first) (a .last) in
-    let seen = looked-at seal (a .lines) (c₈ .loop .machine) (c₈ .loop .memory) (c₄ .before .reads-full .ensures) (c₄ .first-sealed .ensures) in
-    rw (c .halted .ensures)
-    (sym
-    (c₈ .loop .inv .2
-    ∙ guarded-halts seal (a .bound) (c₈ .loop .steps) (a .lines) (c₈ .loop .machine) (c₈ .loop .memory) (c₄ .before .before .before .loop-test .taken) _
-    (seen ∙ c₂ .ahead .given .1)))
+    let c₃ = c .before .before .before in
+    let d = c₃ .before .before .before .before in
+    sym
+    (looped (r d) .loop .inv .2
+    ∙ turn-stops (seal d) _ (k (r d)) (lines d) (machine d) (looped (r d) .loop .memory) (before (r d)) _ (after d) (gives d (c₃ .turned .given .1)) (sym (c .before .is-made .ensures) ∙ not-true _ (c .if1 .taken)))
 
-same-length-2 : tie.Need-same-length-2 Inv-loop μ-loop
-same-length-2 c =
-    let c₆ = c .before .before .before .before .before .before in
-    let c₁₄ = c₆ .before .before .before .before .before .before .before .before in
-    omega (arith, c₆ .single-step .kept, c₁₄ .loop .inv .1, c₁₄ .before .before .pre)
-
-returns-2 : tie.Need-returns-2 Inv-loop μ-loop
-returns-2 c =
-    let c₆ = c .before .before .before .before .before .before in
-    let c₈ = c₆ .before .before in
-    let c₁₀ = c₈ .before .before in
-    let c₁₃ = c₁₀ .before .before .before in
-    let c₁₄ = c₁₃ .before in
-    let a = c₁₄ .before .before .args in
-    let seal = inEither (now (a .pages)) (a .first) (a .last) in
-    let seen = looked-at seal (a .lines) (c₁₄ .loop .machine) (c₁₄ .loop .memory) (c₁₀ .before .reads-full .ensures) (c₁₀ .first-sealed .ensures) in
-    rw (c .ran .ensures)
-    (sym
-    (c₁₄ .loop .inv .2
-    ∙ guarded-stops seal (a .bound) (c₁₄ .loop .steps) (a .lines) (c₁₄ .loop .machine) (c₁₄ .loop .memory) (c₁₃ .loop-test .taken) _ _
-    (seen ∙ c₈ .enum-told .given .1)
-    (full-step (a .lines) (c₁₄ .loop .machine) (c₁₄ .loop .memory) (c₁₄ .loop .inv .1) (c₆ .single-step .ensures))
-    (sym (c .before .before .is-made .ensures) ∙ not-true _ (c .before .if1 .taken))))
-
-add-steps : tie.Need-add-steps Inv-loop μ-loop
-add-steps c =
-    let c₁₂ = c .before .before .before .before .before .before .before .before .before .before .before .before in
-    omega (arith, c₁₂ .loop-test .taken, c₁₂ .before .before .before)
+-- what a turn leaves that was not the end
+goes : (c : tie.Else1 Inv-loop μ-loop)
+    → let d = c .before .before .before .before .before .before .before in
+    let q = c .before .before .before .turned .given .0 .0 in
+    (k (r d) < q .steps)
+    × (q .steps ≤ s (r d) .args .bound)
+    × (guardedFull (seal d) (n (r d)) (k (r d)) (lines d) (machine d) (looped (r d) .loop .memory)
+    ≡ guardedFull (seal d) (s (r d) .args .bound - q .steps) (q .steps) (lines d) (q .machine) (after d))
+goes c =
+    let c₃ = c .before .before .before in
+    let d = c₃ .before .before .before .before in
+    turn-goes (seal d) _ (k (r d)) (lines d) (machine d) (looped (r d) .loop .memory) (before (r d)) _ (after d) (gives d (c₃ .turned .given .1)) (sym (c .before .is-made .ensures) ∙ not-false _ (c .if1 .left))
 
 loop-less : tie.Need-loop-less Inv-loop μ-loop
-loop-less c =
-    let c₁₂ = c .before .before .before .before .before .before .before .before .before .before .before .before in
-    omega (arith, c₁₂ .loop-test .taken)
+loop-less c = let d = c .before .before .before .before .before .before .before .before in omega (arith, goes (c .before), before (r d))
 
 loop-again : tie.Need-loop-again Inv-loop μ-loop
 loop-again c =
-    let c₅ = c .before .before .before .before .before in
-    let c₇ = c₅ .before .before in
-    let c₉ = c₇ .before .before in
-    let c₁₂ = c₉ .before .before .before in
-    let c₁₃ = c₁₂ .before in
-    let a = c₁₃ .before .before .args in
-    let seal = inEither (now (a .pages)) (a .first) (a .last) in
-    let seen = looked-at seal (a .lines) (c₁₃ .loop .machine) (c₁₃ .loop .memory) (c₉ .before .reads-full .ensures) (c₉ .first-sealed .ensures) in (
-      omega (arith, c₁₂ .loop-test .taken),
-      omega (arith, c₅ .single-step .kept, c₁₃ .loop .inv .1),
-      c₁₃ .loop .inv .2
-          ∙ guarded-goes-on seal (a .bound) (c₁₃ .loop .steps) (a .lines) (c₁₃ .loop .machine) (c₁₃ .loop .memory) (c₁₂ .loop-test .taken) _ _
-          (seen ∙ c₇ .enum-told .given .1)
-          (full-step (a .lines) (c₁₃ .loop .machine) (c₁₃ .loop .memory) (c₁₃ .loop .inv .1) (c₅ .single-step .ensures))
-          (sym (c .before .is-made .ensures) ∙ not-false _ (c .if1 .left)),
-    )
+    let d = c .before .before .before .before .before .before .before .before in
+    let g = goes (c .before) in
+    (g .1, kept d, looped (r d) .loop .inv .2 ∙ g .2)
+
+same-length-2 : tie.Need-same-length-2 Inv-loop μ-loop
+same-length-2 c = let d = c .before .before .before .before in omega (arith, kept d, s (r d) .pre)
+
+returns-2 : tie.Need-returns-2 Inv-loop μ-loop
+returns-2 c =
+    let d = c .before .before .before .before in
+    let told = c .enum-told .given .1 in
+    rw told
+    (sym
+    (looped (r d) .loop .inv .2
+    ∙ turn-halts (seal d) _ (k (r d)) (lines d) (machine d) (looped (r d) .loop .memory) (before (r d)) _ (after d) (gives d told)))
 
 same-length-3 : tie.Need-same-length-3 Inv-loop μ-loop
-same-length-3 c = c .before .before .loop .inv .1 ∙ sym (c .before .before .before .before .pre)
+same-length-3 c = let l = c .before .before in omega (arith, l .loop .inv .1, l .before .before .pre)
 
 returns-3 : tie.Need-returns-3 Inv-loop μ-loop
 returns-3 c =
-    let c₂ = c .before .before in
-    let a = c₂ .before .before .args in
-    let seal = inEither (now (a .pages)) (a .first) (a .last) in
-    let over : a .bound - c₂ .loop .steps ≡ 0 = omega (arith, c .before .loop-test .left) in
-    rw (c .ran2 .ensures)
+    let l = c .before .before in
+    let a = l .before .before .args in
+    let over : a .bound - l .loop .steps ≡ 0 = omega (arith, c .before .loop-test .left) in
+    rw (c .ran .ensures)
     (sym
-    (c₂ .loop .inv .2
-    ∙ ap (λ (n : ℕ). guardedFull seal n (c₂ .loop .steps) (a .lines) (c₂ .loop .machine) (c₂ .loop .memory)) over
-    ∙ guarded-end seal _ _ _ _))
+    (l .loop .inv .2
+    ∙ ap (λ (n : ℕ). guardedFull (inEither (now (a .pages)) (a .first) (a .last)) n (l .loop .steps) (a .lines) (l .loop .machine) (l .loop .memory)) over
+    ∙ guarded-end _ _ _ _ _))
 
 pub walk-spec : {M : Type 1} → statement M
 walk-spec =
     tie.close
-    (tie.spec Inv-loop μ-loop loop-holds reads-full-requires (search needs) (search needs) (search needs) same-length returns (search needs) (search needs) (search needs) (search needs) same-length-2 returns-2 add-steps loop-less loop-again (search needs) same-length-3 returns-3)
+    (tie.spec
+    Inv-loop
+    μ-loop
+    loop-holds
+    (search needs)
+    (search needs)
+    add-far
+    turn-requires
+    (search needs)
+    (search needs)
+    same-length
+    returns
+    loop-less
+    loop-again
+    (search needs)
+    same-length-2
+    returns-2
+    (search needs)
+    same-length-3
+    returns-3)

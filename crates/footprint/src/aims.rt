@@ -1,0 +1,71 @@
+// Where the bytes after an opcode lead. The step finds this by functions of its own: one that both called would have two
+// callers, and would no longer be put into the loop of either.
+ghost use mathlib.Core.Path.{_≡_};
+ghost use Prim.Native.Nat.{_+_};
+ghost use lib.ListN.{length};
+ghost use Rattle.manual.specs.Words.{low, address};
+ghost use Rattle.manual.specs.Addressing.{operand};
+ghost use Rattle.manual.specs.Stepping.{fullMemory};
+ghost use Rattle.manual.specs.ReadList.{firstOperand, pulled};
+ghost use Rattle.footprint.specs.Ways.{absolute, pointed};
+use memory::Address;
+use memory::ZeroPage;
+use memory::get_byte;
+use memory::join;
+use registers::Registers;
+
+// The place so many bytes after the opcode.
+pub(crate) fn operand(registers: Registers, count: u16) -> Address
+    ensures { λ r. ⌜ r .0 ≡ operand registers count ⌝ }
+{
+    Address(registers.counter).plus(count)
+}
+
+// The byte so many places above the stack pointer, in its page.
+pub(crate) fn above(registers: Registers, count: u8) -> Address
+    ensures { λ r. ⌜ r .0 ≡ pulled registers count ⌝ }
+{
+    let stack = registers.stack;
+    join(1, std::num::wrapping_add_u8(stack.0, count))
+}
+
+// The place in the zero page that the first operand names.
+pub(crate) fn zero_page(registers: Registers, memory: &[u8]) -> ZeroPage
+    requires { ⌜ length (now memory) ≡ fullMemory ⌝ }
+    ensures { λ r. ⌜ r .0 ≡ firstOperand registers (now (memory .entry)) ⌝ }
+{
+    ZeroPage(get_byte(memory, operand(registers, 1)))
+}
+
+// The same and an index.
+pub(crate) fn zero_page_plus(index: u8, registers: Registers, memory: &[u8]) -> ZeroPage
+    requires { ⌜ length (now memory) ≡ fullMemory ⌝ }
+    ensures { λ r. ⌜ r .0 ≡ low (firstOperand registers (now (memory .entry)) + index) ⌝ }
+{
+    zero_page(registers, memory).plus(index)
+}
+
+// The address that the two operands name.
+pub(crate) fn absolute(registers: Registers, memory: &[u8]) -> Address
+    requires { ⌜ length (now memory) ≡ fullMemory ⌝ }
+    ensures { λ r. ⌜ r .0 ≡ absolute registers (now (memory .entry)) ⌝ }
+{
+    let first = get_byte(memory, operand(registers, 1));
+    join(get_byte(memory, operand(registers, 2)), first)
+}
+
+// An address and an index.
+pub(crate) fn indexed(base: Address, index: u8) -> Address
+    ensures { λ r. ⌜ r .0 ≡ address (base .0 + index) ⌝ }
+{
+    base.plus(index as u16)
+}
+
+// The address that a pointer in the zero page holds.
+pub(crate) fn pointed(pointer: ZeroPage, memory: &[u8]) -> Address
+    requires { ⌜ length (now memory) ≡ fullMemory ⌝ }
+    ensures { λ r. ⌜ r .0 ≡ pointed (pointer .0) (now (memory .entry)) ⌝ }
+{
+    let first = get_byte(memory, pointer.full());
+    join(get_byte(memory, pointer.plus(1).full()), first)
+}
