@@ -21,12 +21,10 @@ use text::put_decimal;
 use text::put_hex4;
 use text::put_spaced_decimal;
 use text::put_text;
+use witness::HALTED;
 use witness::Halt;
 use witness::Watched;
 use witness::watched_long;
-
-// The answer number of a watched run that was halted before it would have read a sealed byte.
-pub const HALTED: u8 = 13;
 
 // Puts zeros into the bytes from a first to a last address.
 fn blank(first: u16, last: u16, memory: &mut [u8])

@@ -12,13 +12,11 @@ use footprint::stores_of;
 use numbers::hand_back;
 use numbers::lines_from;
 use numbers::machine_from;
+use witness::HALTED;
 use witness::Watched;
 use witness::watched_long;
 use witness::watched_run;
 use witness::watched_stretch;
-
-// The answer of a run that was halted before it would have read a sealed byte.
-const HALTED: u8 = 13;
 
 // What a watched run answered, as numbers. Where it was not halted the place is 0000.
 fn hand_over(

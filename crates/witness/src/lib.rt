@@ -31,6 +31,9 @@ use stack::serve;
 
 pub mod seals; // seals.rt: what is sealed
 
+// The answer number of a run that was halted.
+pub const HALTED: u8 = 13;
+
 // The sealed address that the next step would read, the steps that were made before it, and the machine after them.
 pub struct Halt {
     pub place: u16,
