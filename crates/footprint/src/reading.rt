@@ -1,7 +1,7 @@
 // What an opcode reads, in the order of the rules' list: itself, operand bytes, pointer bytes, the target or what is pulled.
 ghost use mathlib.Core.Path.{_≡_};
 ghost use mathlib.Core.List.{[], _∷_};
-ghost use Prim.Native.Nat.{_+_};
+ghost use Prim.Native.Nat.{_+_, _<_};
 ghost use lib.ListN.{length};
 ghost use Rattle.manual.specs.Words.{low, page, joined};
 ghost use Rattle.manual.specs.Addressing.{operand};
@@ -23,6 +23,25 @@ use memory::Address;
 use memory::ZeroPage;
 use memory::join;
 use registers::Registers;
+
+// The opcode, its operand and where that leads.
+fn past_operand(target: Address, registers: Registers) -> Footprint
+    ensures { λ r. ⌜ r ≡ footprintOf (registers .counter ∷ operand registers 1 ∷ target .0 ∷ []) ⌝ }
+{
+    Footprint::three(Address(registers.counter), operand(registers, 1), target)
+}
+
+// The opcode, its two operands and where they lead.
+fn past_operands(target: Address, registers: Registers) -> Footprint
+    ensures { λ r. ⌜ r ≡ footprintOf (registers .counter ∷ operand registers 1 ∷ operand registers 2 ∷ target .0 ∷ []) ⌝ }
+{
+    Footprint::four(
+        Address(registers.counter),
+        operand(registers, 1),
+        operand(registers, 2),
+        target,
+    )
+}
 
 // The opcode, its operand and the two bytes of a pointer in the zero page.
 fn to_pointer(pointer: ZeroPage, registers: Registers) -> Footprint
@@ -73,40 +92,24 @@ fn to_jump_pointer(pointer: Address, registers: Registers) -> Footprint
     )
 }
 
-// What is read by a way, the opcode first.
-pub(crate) fn reads_by(way: u8, registers: Registers, memory: &[u8]) -> Footprint
-    requires { ⌜ length (now memory) ≡ fullMemory ⌝ }
+// What is read by a way that leads to a byte, the opcode first.
+fn reads_to_target(way: u8, registers: Registers, memory: &[u8]) -> Footprint
+    requires { ⌜ (length (now memory) ≡ fullMemory) × (way < 9) ⌝ }
     ensures { λ r. ⌜ r ≡ footprintOf (registers .counter ∷ readBy way registers (now (memory .entry))) ⌝ }
 {
-    let opcode = Address(registers.counter);
-    let first = operand(registers, 1);
-    let second = operand(registers, 2);
     match way {
-        NOTHING => Footprint::one(opcode),
-        ZERO_PAGE => Footprint::three(opcode, first, zero_page(registers, memory).full()),
-        ZERO_PAGE_X => Footprint::three(
-            opcode,
-            first,
+        ZERO_PAGE => past_operand(zero_page(registers, memory).full(), registers),
+        ZERO_PAGE_X => past_operand(
             zero_page_plus(registers.x, registers, memory).full(),
+            registers,
         ),
-        ZERO_PAGE_Y => Footprint::three(
-            opcode,
-            first,
+        ZERO_PAGE_Y => past_operand(
             zero_page_plus(registers.y, registers, memory).full(),
+            registers,
         ),
-        ABSOLUTE => Footprint::four(opcode, first, second, absolute(registers, memory)),
-        ABSOLUTE_X => Footprint::four(
-            opcode,
-            first,
-            second,
-            indexed(absolute(registers, memory), registers.x),
-        ),
-        ABSOLUTE_Y => Footprint::four(
-            opcode,
-            first,
-            second,
-            indexed(absolute(registers, memory), registers.y),
-        ),
+        ABSOLUTE => past_operands(absolute(registers, memory), registers),
+        ABSOLUTE_X => past_operands(indexed(absolute(registers, memory), registers.x), registers),
+        ABSOLUTE_Y => past_operands(indexed(absolute(registers, memory), registers.y), registers),
         INDEXED_INDIRECT_X => {
             let pointer = zero_page_plus(registers.x, registers, memory);
             past_pointer(pointer, pointed(pointer, memory), registers)
@@ -116,8 +119,23 @@ pub(crate) fn reads_by(way: u8, registers: Registers, memory: &[u8]) -> Footprin
             let target = indexed(pointed(pointer, memory), registers.y);
             past_pointer(pointer, target, registers)
         }
+        _ => Footprint::one(Address(registers.counter)),
+    }
+}
+
+// What is read by a way, the opcode first.
+pub(crate) fn reads_by(way: u8, registers: Registers, memory: &[u8]) -> Footprint
+    requires { ⌜ length (now memory) ≡ fullMemory ⌝ }
+    ensures { λ r. ⌜ r ≡ footprintOf (registers .counter ∷ readBy way registers (now (memory .entry))) ⌝ }
+{
+    if way < ONE_OPERAND {
+        return reads_to_target(way, registers, memory);
+    }
+    let opcode = Address(registers.counter);
+    let first = operand(registers, 1);
+    match way {
         ONE_OPERAND => Footprint::two(opcode, first),
-        TWO_OPERANDS => Footprint::three(opcode, first, second),
+        TWO_OPERANDS => Footprint::three(opcode, first, operand(registers, 2)),
         POINTER_X => to_pointer(zero_page_plus(registers.x, registers, memory), registers),
         POINTER_Y => to_pointer(zero_page(registers, memory), registers),
         JUMP_INDIRECT => to_jump_pointer(absolute(registers, memory), registers),

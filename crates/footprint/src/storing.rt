@@ -1,5 +1,6 @@
 // What is stored to by a way, in order: a store's target, a modified byte's, and what is pushed.
 ghost use mathlib.Core.Path.{_≡_};
+ghost use Prim.Native.Nat.{_<_};
 ghost use lib.ListN.{length};
 ghost use Rattle.manual.specs.Stepping.{fullMemory};
 ghost use Rattle.manual.specs.Theorems.Accesses.{threePushed};
@@ -28,15 +29,12 @@ pub(crate) fn pushes(registers: Registers) -> Footprint
     )
 }
 
-// What is stored to by a way.
-pub(crate) fn stores_by(way: u8, registers: Registers, memory: &[u8]) -> Footprint
-    requires { ⌜ length (now memory) ≡ fullMemory ⌝ }
+// What is stored to by a way that leads to a byte.
+fn stores_to_target(way: u8, registers: Registers, memory: &[u8]) -> Footprint
+    requires { ⌜ (length (now memory) ≡ fullMemory) × (way < 9) ⌝ }
     ensures { λ r. ⌜ r ≡ footprintOf (storedBy way registers (now (memory .entry))) ⌝ }
 {
-    let stack = registers.stack;
-    let top = join(1, stack.0);
     match way {
-        NOTHING => Footprint::none(),
         ZERO_PAGE => Footprint::one(zero_page(registers, memory).full()),
         ZERO_PAGE_X => Footprint::one(zero_page_plus(registers.x, registers, memory).full()),
         ZERO_PAGE_Y => Footprint::one(zero_page_plus(registers.y, registers, memory).full()),
@@ -51,6 +49,21 @@ pub(crate) fn stores_by(way: u8, registers: Registers, memory: &[u8]) -> Footpri
             pointed(zero_page(registers, memory), memory),
             registers.y,
         )),
+        _ => Footprint::none(),
+    }
+}
+
+// What is stored to by a way.
+pub(crate) fn stores_by(way: u8, registers: Registers, memory: &[u8]) -> Footprint
+    requires { ⌜ length (now memory) ≡ fullMemory ⌝ }
+    ensures { λ r. ⌜ r ≡ footprintOf (storedBy way registers (now (memory .entry))) ⌝ }
+{
+    if way < PUSH_ONE {
+        return stores_to_target(way, registers, memory);
+    }
+    let stack = registers.stack;
+    let top = join(1, stack.0);
+    match way {
         PUSH_ONE => Footprint::one(top),
         PUSH_TWO => Footprint::two(top, above(registers, 255)),
         PUSH_THREE => pushes(registers),
