@@ -1,13 +1,14 @@
 -- A match whose arms have several numbers each, against a function: each arm is right, and so is the last one, by a test each.
-use Prim.Native.Nat.{ℕ, zero, suc, _<_}
+use Prim.Native.Nat.{ℕ, zero, suc, _+_, _≤_, _<_}
 use mathlib.Core.Path.{_≡_, refl, ap, sym, _∙_}
 use mathlib.Core.Bool.{Bool, true, false, cond}
 use mathlib.Core.List.{List, [], _∷_}
 use mathlib.Core.Logic.{inl, inr, ⊎-elim}
+use native.Mathlib.Omega.{arith}
 use borrow.Author.Tests.{ne-eqb}
 use types.Run.{OneOf}
 use Rattle.laws.specs.Agree.{agree, valuesBelow}
-use Rattle.laws.specs.LastArm.{among}
+use Rattle.laws.specs.LastArm.{NoneOf, among}
 
 -- the numbers of an arm, and the number that it gives
 abbrev pub Arm : Type 0
@@ -83,3 +84,18 @@ pub last-right : {A : Type 0} (v : A) (f : ℕ → A) (arms : List Arm) (n : ℕ
     → (x : ℕ) → x < n → Rest x arms (Unit {0}) → v ≡ f x
 last-right v f arms n same x below rest =
     sym (agree (left v f arms) (λ k. v) n same x below) ∙ ap (λ (t : Bool). cond t v (f x)) (not-in x arms (Unit {0}) rest .1)
+
+-- ---- the last arm after arms of one number each, in a row
+
+-- so many numbers from a first one, the last of them first
+abbrev pub inRow : ℕ → ℕ → List ℕ
+inRow first zero = []
+inRow first (suc n) = (first + n) ∷ inRow first n
+
+pub past-row : (first n x : ℕ) → first ≤ x → NoneOf x (inRow first n) → first + n ≤ x
+past-row first zero x h none = omega arith
+past-row first (suc n) x h none = let less = past-row first n x h (none .0) in omega arith
+
+pub before-row : (n x : ℕ) → x < 1 + n → NoneOf x (inRow 1 n) → x ≡ 0
+before-row n zero h none = refl
+before-row n (suc x) h none = let past = past-row 1 n (suc x) (omega arith) none in absurd (omega arith)

@@ -9,7 +9,7 @@ use Rattle.instruction.specs.Opcodes.{decoded, rows}
 use Rattle.manual.specs.Words.{low, address, page, joined}
 use Rattle.manual.specs.Addressing.{operand, target}
 use Rattle.manual.specs.Interrupts.{irqVector}
-use Rattle.manual.specs.ReadList.{firstOperand, secondOperand, pointerAt, pulled, listedEntry}
+use Rattle.manual.specs.ReadList.{firstOperand, pointerAt, pulled, listedEntry}
 use Rattle.manual.specs.Theorems.Accesses.{threePushed}
 use Rattle.manual.specs.Theorems.Stores.{storedByEntry}
 use Rattle.footprint.specs.Arms.{Arm, codesAt, givenAt, Rest, arm-right, last-right}
@@ -26,8 +26,11 @@ zeroPage r m = joined 0 (firstOperand r m)
 abbrev pub zeroPagePlus : ℕ → Registers → List ℕ → ℕ
 zeroPagePlus index r m = joined 0 (low (firstOperand r m + index))
 
-abbrev pub absolute : Registers → List ℕ → ℕ
-absolute r m = joined (secondOperand r m) (firstOperand r m)
+abbrev pub firstAt : ℕ → List ℕ → ℕ
+firstAt counter m = getD m (address (counter + 1)) 0
+
+abbrev pub absolute : ℕ → List ℕ → ℕ
+absolute counter m = joined (getD m (address (counter + 2)) 0) (firstAt counter m)
 
 abbrev pub pointerX : Registers → List ℕ → ℕ
 pointerX r m = low (firstOperand r m + r .x)
@@ -44,16 +47,16 @@ readWays =
     ∷ (λ r m. operand r 1 ∷ zeroPage r m ∷ [])
     ∷ (λ r m. operand r 1 ∷ zeroPagePlus (r .x) r m ∷ [])
     ∷ (λ r m. operand r 1 ∷ zeroPagePlus (r .y) r m ∷ [])
-    ∷ (λ r m. operand r 1 ∷ operand r 2 ∷ absolute r m ∷ [])
-    ∷ (λ r m. operand r 1 ∷ operand r 2 ∷ address (absolute r m + r .x) ∷ [])
-    ∷ (λ r m. operand r 1 ∷ operand r 2 ∷ address (absolute r m + r .y) ∷ [])
+    ∷ (λ r m. operand r 1 ∷ operand r 2 ∷ absolute (r .counter) m ∷ [])
+    ∷ (λ r m. operand r 1 ∷ operand r 2 ∷ address (absolute (r .counter) m + r .x) ∷ [])
+    ∷ (λ r m. operand r 1 ∷ operand r 2 ∷ address (absolute (r .counter) m + r .y) ∷ [])
     ∷ (λ r m. operand r 1 ∷ joined 0 (pointerX r m) ∷ joined 0 (low (pointerX r m + 1)) ∷ pointed (pointerX r m) m ∷ [])
     ∷ (λ r m. operand r 1 ∷ zeroPage r m ∷ joined 0 (low (firstOperand r m + 1)) ∷ address (pointed (firstOperand r m) m + r .y) ∷ [])
     ∷ (λ r m. operand r 1 ∷ [])
     ∷ (λ r m. operand r 1 ∷ operand r 2 ∷ [])
     ∷ (λ r m. operand r 1 ∷ pointerAt 0 (pointerX r m))
     ∷ (λ r m. operand r 1 ∷ pointerAt 0 (firstOperand r m))
-    ∷ (λ r m. operand r 1 ∷ operand r 2 ∷ pointerAt (page (absolute r m)) (low (absolute r m)))
+    ∷ (λ r m. operand r 1 ∷ operand r 2 ∷ pointerAt (page (absolute (r .counter) m)) (low (absolute (r .counter) m)))
     ∷ (λ r m. pulled r 1 ∷ [])
     ∷ (λ r m. pulled r 1 ∷ pulled r 2 ∷ [])
     ∷ (λ r m. pulled r 1 ∷ pulled r 2 ∷ pulled r 3 ∷ [])
@@ -66,9 +69,9 @@ storeWays =
     ∷ (λ r m. zeroPage r m ∷ [])
     ∷ (λ r m. zeroPagePlus (r .x) r m ∷ [])
     ∷ (λ r m. zeroPagePlus (r .y) r m ∷ [])
-    ∷ (λ r m. absolute r m ∷ [])
-    ∷ (λ r m. address (absolute r m + r .x) ∷ [])
-    ∷ (λ r m. address (absolute r m + r .y) ∷ [])
+    ∷ (λ r m. absolute (r .counter) m ∷ [])
+    ∷ (λ r m. address (absolute (r .counter) m + r .x) ∷ [])
+    ∷ (λ r m. address (absolute (r .counter) m + r .y) ∷ [])
     ∷ (λ r m. pointed (pointerX r m) m ∷ [])
     ∷ (λ r m. address (pointed (firstOperand r m) m + r .y) ∷ [])
     ∷ (λ r m. joined 1 (r .stack .0) ∷ [])

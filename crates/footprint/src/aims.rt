@@ -3,55 +3,51 @@
 ghost use mathlib.Core.Path.{_≡_};
 ghost use Prim.Native.Nat.{_+_};
 ghost use lib.ListN.{length};
-ghost use Rattle.manual.specs.Words.{low, address};
-ghost use Rattle.manual.specs.Addressing.{operand};
+ghost use Rattle.manual.specs.Words.{low, address, joined};
 ghost use Rattle.manual.specs.Stepping.{fullMemory};
-ghost use Rattle.manual.specs.ReadList.{firstOperand, pulled};
-ghost use Rattle.footprint.specs.Ways.{absolute, pointed};
+ghost use Rattle.footprint.specs.Ways.{firstAt, absolute, pointed};
 use memory::Address;
 use memory::ZeroPage;
 use memory::get_byte;
 use memory::join;
-use registers::Registers;
 
 // The place so many bytes after the opcode.
-pub(crate) fn operand(registers: Registers, count: u16) -> Address
-    ensures { λ r. ⌜ r .0 ≡ operand registers count ⌝ }
+pub(crate) fn operand(counter: u16, count: u16) -> Address
+    ensures { λ r. ⌜ r .0 ≡ address (counter + count) ⌝ }
 {
-    Address(registers.counter).plus(count)
+    Address(counter).plus(count)
 }
 
 // The byte so many places above the stack pointer, in its page.
-pub(crate) fn above(registers: Registers, count: u8) -> Address
-    ensures { λ r. ⌜ r .0 ≡ pulled registers count ⌝ }
+pub(crate) fn above(pointer: u8, count: u8) -> Address
+    ensures { λ r. ⌜ r .0 ≡ joined 1 (low (pointer + count)) ⌝ }
 {
-    let stack = registers.stack;
-    join(1, std::num::wrapping_add_u8(stack.0, count))
+    join(1, std::num::wrapping_add_u8(pointer, count))
 }
 
 // The place in the zero page that the first operand names.
-pub(crate) fn zero_page(registers: Registers, memory: &[u8]) -> ZeroPage
+pub(crate) fn zero_page(counter: u16, memory: &[u8]) -> ZeroPage
     requires { ⌜ length (now memory) ≡ fullMemory ⌝ }
-    ensures { λ r. ⌜ r .0 ≡ firstOperand registers (now (memory .entry)) ⌝ }
+    ensures { λ r. ⌜ r .0 ≡ firstAt counter (now (memory .entry)) ⌝ }
 {
-    ZeroPage(get_byte(memory, operand(registers, 1)))
+    ZeroPage(get_byte(memory, operand(counter, 1)))
 }
 
 // The same and an index.
-pub(crate) fn zero_page_plus(index: u8, registers: Registers, memory: &[u8]) -> ZeroPage
+pub(crate) fn zero_page_plus(index: u8, counter: u16, memory: &[u8]) -> ZeroPage
     requires { ⌜ length (now memory) ≡ fullMemory ⌝ }
-    ensures { λ r. ⌜ r .0 ≡ low (firstOperand registers (now (memory .entry)) + index) ⌝ }
+    ensures { λ r. ⌜ r .0 ≡ low (firstAt counter (now (memory .entry)) + index) ⌝ }
 {
-    zero_page(registers, memory).plus(index)
+    zero_page(counter, memory).plus(index)
 }
 
 // The address that the two operands name.
-pub(crate) fn absolute(registers: Registers, memory: &[u8]) -> Address
+pub(crate) fn absolute(counter: u16, memory: &[u8]) -> Address
     requires { ⌜ length (now memory) ≡ fullMemory ⌝ }
-    ensures { λ r. ⌜ r .0 ≡ absolute registers (now (memory .entry)) ⌝ }
+    ensures { λ r. ⌜ r .0 ≡ absolute counter (now (memory .entry)) ⌝ }
 {
-    let first = get_byte(memory, operand(registers, 1));
-    join(get_byte(memory, operand(registers, 2)), first)
+    let first = get_byte(memory, operand(counter, 1));
+    join(get_byte(memory, operand(counter, 2)), first)
 }
 
 // An address and an index.
