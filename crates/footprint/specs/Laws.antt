@@ -14,7 +14,6 @@ use Rattle.manual.specs.Interrupts.{due}
 use Rattle.manual.specs.Stepping.{fullMemory, highestCount}
 use Rattle.manual.specs.ReadList.{listedEntry, listedDue, listedStepFull, listedStep}
 use Rattle.manual.specs.Theorems.Stores.{storedByEntry, storedByDue, storedByStep}
-use Rattle.footprint.specs.declared.places.Footprint.{Footprint}
 use Rattle.footprint.specs.Places.{footprintOf}
 use Rattle.footprint.specs.Ways.{Way, readBy, storedBy, ReadsBy, StoresBy}
 

@@ -1,7 +1,5 @@
 -- The footprint keeps whole what is read.
-use Prim.Native.Nat.{ℕ}
 use mathlib.Core.Path.{ap, _∙_}
-use mathlib.Core.List.{List}
 use denote.Ref.{now}
 use borrow.Author.Needs.{needs}
 use Rattle.footprint.specs.declared.places.Footprint.{Footprint}
