@@ -116,19 +116,30 @@ build_tapes() {
     rust tapes host/tapes.rs --extern oracle="$out/liboracle.rlib" -C link-arg="$tapes"
 }
 
-# find_watch: sets `watch` to the archive of the watched run. It is proved and built like the port's, or stands beside that
+# find_other CRATE: sets `found` to the archive of another crate. It is proved and built like the port's, or stands beside that
 # where one is given.
-find_watch() {
+find_other() {
     if [ -n "$given" ]; then
-        watch=$(dirname "$given")/libwatch_c.a
+        found=$(dirname "$given")/lib$1.a
     elif [ "$machine" = x86_64 ]; then
-        watch=target/staticlib/libwatch_c.a
-        renew "$watch" 'rt staticlib watch_c'
+        found=target/staticlib/lib$1.a
+        renew "$found" "rt staticlib $1"
     else
-        watch=$out/libwatch_c.a
-        renew "$watch" 'host/native-archive watch_c'
+        found=$out/lib$1.a
+        renew "$found" "host/native-archive $1"
     fi
-    [ -f "$watch" ] || stop 2 "there is no archive $watch"
+    [ -f "$found" ] || stop 2 "there is no archive $found"
+}
+
+# find_watch: sets `watch` to the archive of the watched run, and find_footprints `footprints` to that of the footprints.
+find_watch() {
+    find_other watch_c
+    watch=$found
+}
+
+find_footprints() {
+    find_other footprint_c
+    footprints=$found
 }
 
 # What the archive is: it names the logic that proved it, and only rt writes that mark.

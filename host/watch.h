@@ -1,8 +1,8 @@
-/* The watched run and the footprints, proved, for a host in C or C++: link target/staticlib/libwatch_c.a, which
- * `rt staticlib watch_c` writes for x86-64. It stands by itself; beside libmos6502.a it shares no symbol with it.
+/* The watched run, proved, for a host in C or C++: link target/staticlib/libwatch_c.a, which `rt staticlib watch_c` writes for
+ * x86-64. It stands by itself; beside libmos6502.a it shares no symbol with it.
  *
  * The registers are the number of mos6502.h, which also has the functions that make it and take it apart, and the levels of the
- * lines. The numbers, the places, the map and the `length` bytes of memory must not overlap, and nobody else may use them
+ * lines. The numbers, the place, the map and the `length` bytes of memory must not overlap, and nobody else may use them
  * meanwhile.
  */
 #ifndef WATCH_H
@@ -42,16 +42,6 @@ uint8_t mos6502_watched_stretch(uint64_t *registers, uint64_t *cycles, uint64_t 
 /* The same with any bound, so that no answer is 4. */
 uint8_t mos6502_watched_long(uint64_t *registers, uint64_t *cycles, uint64_t *steps, uint16_t *place, uint64_t bound,
                              uint8_t lines, uint16_t first, uint16_t last, uint8_t *memory, size_t length);
-
-/* The number of addresses that a step from here reads, at most 5. All five of `places` are written: these addresses in the
- * order of the step, then zeros. An address that it reads twice is there twice. None is read where length is not 65,536 or there
- * is no room for the cycles, and only the opcode where that is not documented. Nothing is changed. */
-size_t mos6502_reads(uint64_t registers, uint64_t cycles, uint8_t lines, const uint8_t *memory, size_t length,
-                     uint16_t *places);
-
-/* The same of the addresses that it stores to, at most 3: none where the step is refused. */
-size_t mos6502_stores(uint64_t registers, uint64_t cycles, uint8_t lines, const uint8_t *memory, size_t length,
-                      uint16_t *places);
 
 #ifdef __cplusplus
 }

@@ -1,6 +1,6 @@
 /* watch_image FIRST LAST STEPS IMAGE: runs an image as report starts it, with the bytes from FIRST to LAST sealed. Prints the
- * answer and the steps made; where it was halted, also the counter, the sealed address that it would have read and what its
- * next step would store to. The exit status is the answer, 64 for wrong usage.
+ * answer and the steps made; where it was halted, also the counter and the sealed address that it would have read. The exit
+ * status is the answer, 64 for wrong usage.
  *
  *     rt staticlib watch_c
  *     cc -I host host/examples/watch_image.c target/staticlib/libwatch_c.a -o target/watch_image
@@ -42,8 +42,8 @@ int main(int count, char **words)
 {
     unsigned long first, last, bound;
     uint64_t registers, cycles = 0, steps;
-    uint16_t place, places[5];
-    size_t length, stores;
+    uint16_t place;
+    size_t length;
     uint8_t answer;
 
     if (count != 5 || !read_number(words[1], 16, 0xFFFF, &first) || !read_number(words[2], 16, 0xFFFF, &last) ||
@@ -57,12 +57,8 @@ int main(int count, char **words)
     answer = mos6502_watched_long(&registers, &cycles, &steps, &place, bound, MOS6502_IDLE, (uint16_t)first,
                                   (uint16_t)last, memory, length);
     printf("%u %llu", answer, (unsigned long long)steps);
-    if (answer == MOS6502_HALTED) {
+    if (answer == MOS6502_HALTED)
         printf(" %04X %04X", (unsigned)(registers >> COUNTER & 0xFFFF), place);
-        stores = mos6502_stores(registers, cycles, MOS6502_IDLE, memory, length, places);
-        for (size_t i = 0; i < stores; i++)
-            printf(" %04X", places[i]);
-    }
     printf("\n");
     return answer;
 }

@@ -1,14 +1,8 @@
-// The watched run and the footprints on numbers, for a host in C or Rust: see host/watch.h.
+// The watched run on numbers, for a host in C or Rust: see host/watch.h. It is an archive of its own, so that its loop is the only
+// caller of the footprints in it: what has one caller is put into it.
 ghost use mathlib.Core.Path.{_≡_};
-ghost use lib.ListN.{length};
-ghost use Rattle.manual.specs.ReadList.{listedStep};
-ghost use Rattle.manual.specs.Theorems.Stores.{storedByStep};
-ghost use Rattle.numbers.specs.Machines.{machineFrom, linesFrom};
-ghost use Rattle.footprint.specs.Places.{footprintOf};
 ghost use Rattle.witness.specs.Guarded.{inPages, inStretch};
 ghost use Rattle.watch_c.specs.Watching.{watchNumbers, watchedOnNumbers, longWatchedOnNumbers};
-use footprint::reads_of;
-use footprint::stores_of;
 use numbers::hand_back;
 use numbers::lines_from;
 use numbers::machine_from;
@@ -160,42 +154,4 @@ pub extern "C" fn mos6502_watched_long(
         memory,
     );
     hand_over(watched, registers, cycles, steps, place)
-}
-
-// The number of addresses that a step from here reads, and they in order, with zeros after them. Nothing is changed.
-#[no_mangle]
-pub extern "C" fn mos6502_reads(
-    registers: u64,
-    cycles: u64,
-    lines: u8,
-    memory: &[u8],
-    places: &mut [u16; 5],
-) -> usize
-    ensures { λ r.
-        ⌜ record { count = r; places = now (places .exit) }
-        ≡ footprintOf (listedStep (length (now (memory .entry))) (linesFrom lines) (machineFrom registers cycles) (now (memory .entry))) ⌝ }
-{
-    let footprint = reads_of(machine_from(registers, cycles), lines_from(lines), memory);
-    let listed = footprint.places;
-    *places = listed;
-    footprint.count
-}
-
-// The same of the addresses that it stores to.
-#[no_mangle]
-pub extern "C" fn mos6502_stores(
-    registers: u64,
-    cycles: u64,
-    lines: u8,
-    memory: &[u8],
-    places: &mut [u16; 5],
-) -> usize
-    ensures { λ r.
-        ⌜ record { count = r; places = now (places .exit) }
-        ≡ footprintOf (storedByStep (length (now (memory .entry))) (linesFrom lines) (machineFrom registers cycles) (now (memory .entry))) ⌝ }
-{
-    let footprint = stores_of(machine_from(registers, cycles), lines_from(lines), memory);
-    let listed = footprint.places;
-    *places = listed;
-    footprint.count
 }

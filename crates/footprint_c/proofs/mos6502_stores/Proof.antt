@@ -1,7 +1,7 @@
 -- The footprint of the machine of the numbers.
 use borrow.Author.Needs.{needs}
-use Rattle.watch_c.proofs.mos6502_stores.Statement.{statement}
-use Rattle.watch_c.proofs.mos6502_stores.Tie as tie
+use Rattle.footprint_c.proofs.mos6502_stores.Statement.{statement}
+use Rattle.footprint_c.proofs.mos6502_stores.Tie as tie
 
 returns : tie.Need-returns
 returns c =
