@@ -1,5 +1,5 @@
 //! A run that is halted before it would read a sealed byte, and what a step will read and store to, before it is made. watch.h
-//! says what the C functions promise.
+//! and footprint.h say what the C functions promise.
 //!
 //! ```
 //! use saxundeer::watch::{Watched, watched_stretch};
@@ -151,8 +151,23 @@ pub fn watched_run(
     numbers.watched(answer)
 }
 
-/// The same where the addresses of a range are sealed.
-pub fn watched_stretch(
+/// A C function that makes a watched run with a stretch sealed.
+type OverStretch = unsafe extern "C" fn(
+    *mut u64,
+    *mut u64,
+    *mut u64,
+    *mut u16,
+    u64,
+    u8,
+    u16,
+    u16,
+    *mut u8,
+    usize,
+) -> u8;
+
+/// A watched run by one of these functions.
+fn over_stretch(
+    function: OverStretch,
     machine: Machine,
     bound: u64,
     lines: Lines,
@@ -162,7 +177,7 @@ pub fn watched_stretch(
     let mut numbers = Numbers::of(machine);
     // Sound: as above.
     let answer = unsafe {
-        mos6502_watched_stretch(
+        function(
             &mut numbers.registers,
             &mut numbers.cycles,
             &mut numbers.steps,
@@ -178,6 +193,24 @@ pub fn watched_stretch(
     numbers.watched(answer)
 }
 
+/// The same where the addresses of a range are sealed.
+pub fn watched_stretch(
+    machine: Machine,
+    bound: u64,
+    lines: Lines,
+    sealed: RangeInclusive<u16>,
+    memory: &mut [u8],
+) -> Watched {
+    over_stretch(
+        mos6502_watched_stretch,
+        machine,
+        bound,
+        lines,
+        sealed,
+        memory,
+    )
+}
+
 /// The same with any number of steps: never `BoundTooHigh`.
 pub fn watched_long(
     machine: Machine,
@@ -186,23 +219,7 @@ pub fn watched_long(
     sealed: RangeInclusive<u16>,
     memory: &mut [u8],
 ) -> Watched {
-    let mut numbers = Numbers::of(machine);
-    // Sound: as above.
-    let answer = unsafe {
-        mos6502_watched_long(
-            &mut numbers.registers,
-            &mut numbers.cycles,
-            &mut numbers.steps,
-            &mut numbers.place,
-            bound,
-            lines.byte(),
-            *sealed.start(),
-            *sealed.end(),
-            memory.as_mut_ptr(),
-            memory.len(),
-        )
-    };
-    numbers.watched(answer)
+    over_stretch(mos6502_watched_long, machine, bound, lines, sealed, memory)
 }
 
 /// A few addresses in order: at most five.
@@ -219,13 +236,15 @@ impl Footprint {
     }
 }
 
-/// The addresses that a step from here reads, in order; none where it is refused before it reads the opcode.
-#[must_use]
-pub fn reads_of(machine: Machine, lines: Lines, memory: &[u8]) -> Footprint {
+/// A C function that lists addresses.
+type Lister = unsafe extern "C" fn(u64, u64, u8, *const u8, usize, *mut [u16; 5]) -> usize;
+
+/// A footprint by one of these functions.
+fn footprint(function: Lister, machine: Machine, lines: Lines, memory: &[u8]) -> Footprint {
     let mut places = [0; 5];
     // Sound: the places are this function's own, the memory is lent to it, and the length is the memory's.
     let count = unsafe {
-        mos6502_reads(
+        function(
             machine.number(),
             machine.cycles,
             lines.byte(),
@@ -237,20 +256,14 @@ pub fn reads_of(machine: Machine, lines: Lines, memory: &[u8]) -> Footprint {
     Footprint { count, places }
 }
 
+/// The addresses that a step from here reads, in order; none where it is refused before it reads the opcode.
+#[must_use]
+pub fn reads_of(machine: Machine, lines: Lines, memory: &[u8]) -> Footprint {
+    footprint(mos6502_reads, machine, lines, memory)
+}
+
 /// The addresses that a step from here stores to, in order; none where it is refused.
 #[must_use]
 pub fn stores_of(machine: Machine, lines: Lines, memory: &[u8]) -> Footprint {
-    let mut places = [0; 5];
-    // Sound: as above.
-    let count = unsafe {
-        mos6502_stores(
-            machine.number(),
-            machine.cycles,
-            lines.byte(),
-            memory.as_ptr(),
-            memory.len(),
-            &mut places,
-        )
-    };
-    Footprint { count, places }
+    footprint(mos6502_stores, machine, lines, memory)
 }
