@@ -1,12 +1,15 @@
 // A log that is read part by part: each part is checked up to its last LF, and what stands after that is kept for the next.
-ghost use Prim.Native.Nat.{_-_, _≤_};
+ghost use Prim.Native.Nat.{_+_, _-_, _≤_};
 ghost use mathlib.Core.Path.{_≡_};
-ghost use mathlib.Core.Bool.{cond};
-ghost use lib.Dec.{ltb};
+ghost use mathlib.Core.Bool.{true};
 ghost use lib.ListN.{length, take, drop};
 ghost use lib.Seq.{sets};
 ghost use Rattle.io.specs.Counts.{Counts};
+ghost use Rattle.reading.specs.Numbers.{nowhere};
+ghost use Rattle.check_program.specs.Ahead.{partEnd, another};
+ghost use Rattle.check_program.specs.Turns.{partIn, added, Goes, More, Ends};
 use checking::Last;
+use checking::Part;
 use checking::check_part;
 use checking::whole_lines;
 use console::Input;
@@ -35,6 +38,8 @@ struct Turn {
 fn read_more(descriptor: i32, kept: usize, buffer: &mut [u8]) -> Input
     requires { ⌜ kept ≤ length (now buffer) ⌝ }
     ensures { λ r. ⌜ Counts (r .size) (now (buffer .exit)) ⌝ }
+    ensures { λ r. ⌜ (r .status ≡ 0 → kept ≤ r .size) ⌝ }
+    ensures { λ r. ⌜ take kept (now (buffer .exit)) ≡ take kept (now (buffer .entry)) ⌝ }
 {
     let got = libc::read(descriptor, &mut buffer[kept..]);
     if got < 0 {
@@ -55,7 +60,7 @@ fn read_more(descriptor: i32, kept: usize, buffer: &mut [u8]) -> Input
 // stand after that LF, for no line has more than 41 (the theorems `joined` and `overlong` of checking).
 fn part_end(size: usize, whole: usize, ended: bool) -> usize
     requires { ⌜ whole ≤ size ⌝ }
-    ensures { λ r. ⌜ r ≡ cond ended size (cond (ltb 64 (size - whole)) size whole) ⌝ }
+    ensures { λ r. ⌜ r ≡ partEnd ended size whole ⌝ }
     ensures { λ r. ⌜ (r ≤ size) × (size - r ≤ 64) ⌝ }
 {
     if ended {
@@ -79,6 +84,62 @@ fn keep_rest(buffer: &mut [u8], end: usize, size: usize) -> usize
     left
 }
 
+// Whether another part is to be read.
+fn goes_on(size: usize, whole: usize, ended: bool, answer: u8) -> bool
+    requires { ⌜ whole ≤ size ⌝ }
+    ensures { λ r. ⌜ r ≡ another ended size whole answer ⌝ }
+{
+    if ended {
+        return false;
+    }
+    if 64 < size - whole {
+        return false;
+    }
+    answer == 0
+}
+
+// What a part shows, after so many lines.
+fn tally(lines: u64, part: Part) -> Found
+    ensures { λ r. ⌜ (lines + part .lines ≤ nowhere → partIn r ≡ added lines part) ⌝ }
+    ensures { λ r. ⌜ r .status ≡ 0 ⌝ }
+{
+    let last = part.last;
+    Found {
+        status: 0,
+        answer: part.answer,
+        lines: std::num::wrapping_add_u64(lines, part.lines as u64),
+        last: last,
+    }
+}
+
+// Checks what stands in the buffer up to `size`, of which so much was kept and the rest was read now.
+fn check_read(
+    found: Found,
+    kept: usize,
+    size: usize,
+    ended: bool,
+    buffer: &mut [u8],
+    copy: &mut [u8],
+) -> Turn
+    requires { ⌜ (kept ≤ size) × (size ≤ length (now buffer)) ⌝ }
+    ensures { λ r. ⌜ Goes (found .lines) (found .last) (take kept (now (buffer .entry))) (now (copy .entry)) (take (size - kept) (drop kept (now (buffer .entry)))) ended r (take (r .kept) (now (buffer .exit))) (now (copy .exit)) ⌝ }
+    ensures { λ r. ⌜ r .kept ≤ length (now (buffer .exit)) ⌝ }
+    ensures { λ r. ⌜ r .found .status ≡ 0 ⌝ }
+{
+    let whole = whole_lines(&buffer[..size]);
+    let end = part_end(size, whole, ended);
+    let before = found.last;
+    let part = check_part(before, &buffer[..end], copy);
+    let left = keep_rest(buffer, end, size);
+    let more = goes_on(size, whole, ended, part.answer);
+    let lines = found.lines;
+    Turn {
+        found: tally(lines, part),
+        kept: left,
+        more: more,
+    }
+}
+
 // Reads a part and checks it.
 fn check_some(
     descriptor: i32,
@@ -89,10 +150,12 @@ fn check_some(
 ) -> Turn
     requires { ⌜ kept ≤ length (now buffer) ⌝ }
     ensures { λ r. ⌜ r .kept ≤ length (now (buffer .exit)) ⌝ }
+    ensures { λ r. ⌜ (r .found .status ≡ 0 → More (found .lines) (found .last) (take kept (now (buffer .entry))) (now (copy .entry)) r (take (r .kept) (now (buffer .exit))) (now (copy .exit))) ⌝ }
+    ensures { λ r. ⌜ (r .more ≡ true → r .found .status ≡ 0) ⌝ }
 {
     let input = read_more(descriptor, kept, buffer);
-    let before = found.last;
     if input.status != 0 {
+        let before = found.last;
         return Turn {
             found: Found {
                 status: input.status,
@@ -105,26 +168,14 @@ fn check_some(
         };
     }
     let size = input.size;
-    let ended = size == kept;
-    let whole = whole_lines(&buffer[..size]);
-    let end = part_end(size, whole, ended);
-    let part = check_part(before, &buffer[..end], copy);
-    let last = part.last;
-    let left = keep_rest(buffer, end, size);
-    Turn {
-        found: Found {
-            status: 0,
-            answer: part.answer,
-            lines: std::num::wrapping_add_u64(found.lines, part.lines as u64),
-            last: last,
-        },
-        kept: left,
-        more: !ended && part.answer == 0,
-    }
+    check_read(found, kept, size, size == kept, buffer, copy)
 }
 
-// Reads the whole log and checks it, or stops at its first bad line. The count of turns ends the loop for the proof alone.
-fn check_from(descriptor: i32, copy: &mut [u8]) -> Found {
+// Reads the whole log and checks it, or stops at its first bad line: there is a text, the one that was read, of which this is
+// the check, whatever follows or where nothing does. The count of turns ends the loop for the proof alone.
+fn check_from(descriptor: i32, copy: &mut [u8]) -> Found
+    ensures { λ r. ⌜ (r .status ≡ 0 → Ends (now (copy .entry)) r (now (copy .exit))) ⌝ }
+{
     let mut buffer = io::large_buffer();
     let mut found = Found {
         status: 0,
@@ -143,7 +194,12 @@ fn check_from(descriptor: i32, copy: &mut [u8]) -> Found {
         }
         turns -= 1;
     }
-    found
+    Found {
+        status: FAILED,
+        answer: 0,
+        lines: 0,
+        last: Last::Start,
+    }
 }
 
 // Checks the log that an argument names.

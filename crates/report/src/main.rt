@@ -11,6 +11,12 @@
 // failed. Of several images the first status that is not 0; every one that can be read is run.
 //
 // What the line, the sentence and the status say is promised by image.rt, and by the crates sentences and statuses.
+ghost use Prim.Native.Nat.{_≤_};
+ghost use mathlib.Core.Path.{_≡_};
+ghost use lib.ListN.{length, take};
+ghost use Rattle.statuses.specs.Statuses.{firstOf};
+ghost use Rattle.ending.specs.Lost.{unlessLost};
+ghost use Rattle.report.specs.Status.{imageStatus};
 use console::address_argument;
 use console::argument_is;
 use console::hand_over;
@@ -19,38 +25,72 @@ use console::read_input;
 use console::refuse;
 use console::write_output;
 use ending::say_ending;
+use ending::unless_lost;
 use image::report;
 use memory::image_buffer;
 use reading::NOWHERE;
-use statuses::FAILED;
 use statuses::Goal;
 use statuses::first_of;
+use text::put_text;
 
 mod image; // image.rt: the run of an image, and its line
 
+// What the operating system said of an image: how reading it ended, how long it is, whether its line was written; and the
+// status by that.
+struct Told {
+    read: u8,
+    size: usize,
+    written: bool,
+    status: u8,
+}
+
+// The same of an image that was read.
+struct Shown {
+    written: bool,
+    status: u8,
+}
+
 // 64 is the most that a line can have: see `report`.
-fn report_image(index: usize, goal: Goal, image: &mut [u8]) -> u8 {
+fn report_image(index: usize, goal: Goal, image: &mut [u8]) -> Shown
+    ensures { λ r. ⌜ r .status ≡ unlessLost (r .written) (imageStatus goal (now (image .entry))) ⌝ }
+{
     let mut text = [0u8; 64];
     let reported = report(image, &mut text);
     let size = reported.size;
     let ended = reported.ended;
     let written = write_output(&text[..size]);
     let status = say_ending(index, goal, ended, image);
-    if written {
-        return status;
+    Shown {
+        written: written,
+        status: unless_lost(written, status),
     }
-    FAILED
 }
 
-// Reports the image that an argument names, and answers its status.
-fn report_argument(index: usize, goal: Goal) -> u8 {
-    let mut image = image_buffer();
-    let input = read_input(index, &mut image);
-    if input.status != 0 {
-        return input.status;
+// Reads the image that an argument names into `input` and reports it. It is run in `image`, so that `input` is left as it was
+// read.
+fn report_argument(index: usize, goal: Goal, input: &mut [u8], image: &mut [u8]) -> Told
+    requires { ⌜ length (now input) ≤ length (now image) ⌝ }
+    ensures { λ r. ⌜ r .status ≡ firstOf (r .read) (unlessLost (r .written) (imageStatus goal (take (r .size) (now (input .exit))))) ⌝ }
+{
+    let got = read_input(index, input);
+    let read = got.status;
+    let size = got.size;
+    if read != 0 {
+        return Told {
+            read: read,
+            size: size,
+            written: false,
+            status: read,
+        };
     }
-    let size = input.size;
-    report_image(index, goal, &mut image[..size])
+    put_text(image, 0, &input[..size]);
+    let shown = report_image(index, goal, &mut image[..size]);
+    Told {
+        read: read,
+        size: size,
+        written: shown.written,
+        status: shown.status,
+    }
 }
 
 // Reports the images that the arguments from an index on name, or standard input where there are none.
@@ -60,14 +100,18 @@ fn report_all(from: usize, goal: Goal) -> u8 {
             b"report: the only option is --stop ADDRESS, and it comes first; ./run report --help\n",
         );
     }
+    let mut input = image_buffer();
+    let mut image = image_buffer();
     let count = os::arg_count();
     if count <= from {
-        return report_argument(from, goal);
+        let told = report_argument(from, goal, &mut input, &mut image);
+        return told.status;
     }
     let mut status = 0;
     let mut index = from;
     while index < count {
-        status = first_of(status, report_argument(index, goal));
+        let told = report_argument(index, goal, &mut input, &mut image);
+        status = first_of(status, told.status);
         index += 1;
     }
     status

@@ -16,22 +16,27 @@
 ghost use Prim.Native.Nat.{_≤_};
 ghost use mathlib.Core.Path.{_≡_};
 ghost use lib.ListN.{length};
+ghost use Rattle.manual.specs.Micro.{Gives};
+ghost use Rattle.manual.specs.Interrupts.{idle};
+ghost use Rattle.manual.specs.Stepping.{longRun};
+ghost use Rattle.statuses.specs.Statuses.{firstOf};
+ghost use Rattle.outcome.specs.Kept.{Kept};
+ghost use Rattle.reporting.specs.Report.{longImageRun};
+ghost use Rattle.trace.specs.Status.{traceStatus};
 use console::count_argument;
 use console::hand_over;
 use console::has_option;
 use console::read_input;
 use console::refuse;
-use console::write_output;
 use ending::say_ending;
 use manual::Ended;
 use manual::FULL_MEMORY;
 use manual::Machine;
-use manual::Reason;
 use memory::image_buffer;
+use outcome::write_or_fail;
 use reading::NOWHERE;
 use reporting::start_image;
 use state_lines::put_line;
-use statuses::FAILED;
 use statuses::Goal;
 use tracing::put_steps;
 
@@ -46,91 +51,87 @@ fn text_buffer() -> [u8; 41000]
     [0; 41000]
 }
 
-// How a part ended, and whether its lines were written.
-struct Part {
-    ended: Ended,
-    written: bool,
-}
-
-fn trace_part(machine: Machine, bound: u64, image: &mut [u8]) -> Part
+fn trace_part(machine: Machine, bound: u64, image: &mut [u8], failed: &mut u8) -> Ended
     requires { ⌜ bound ≤ 1000 ⌝ }
+    ensures { λ r. ⌜ Gives (longRun (length (now (image .entry))) bound idle machine) (now (image .entry)) r (now (image .exit)) ⌝ }
+    ensures { λ r. ⌜ Kept (now (failed .entry)) (now (failed .exit)) ⌝ }
 {
     let mut text = text_buffer();
     let traced = put_steps(&mut text, machine, bound, image);
     let ended = traced.ended;
     let size = traced.size;
-    let written = write_output(&text[..size]);
-    Part {
-        ended: ended,
-        written: written,
-    }
+    write_or_fail(&text[..size], failed);
+    ended
 }
 
-// The line of the state that a run starts with.
-fn write_start(machine: Machine) -> bool {
+// The line of the state that a run starts with. An image of another length has none.
+fn write_start(machine: Machine, length: usize, failed: &mut u8)
+    ensures { λ r. ⌜ Kept (now (failed .entry)) (now (failed .exit)) ⌝ }
+{
+    if length != FULL_MEMORY {
+        return;
+    }
     let mut text = [0u8; 41];
     let size = put_line(&mut text, 0, machine);
-    write_output(&text[..size])
+    write_or_fail(&text[..size], failed);
 }
 
-fn trace_run(index: usize, count: u64, image: &mut [u8]) -> u8 {
-    let mut machine = start_image(image);
-    if !write_start(machine) {
-        return FAILED;
-    }
+// A run of at most `count` steps, part by part. It is broken off where its lines cannot be written.
+fn trace_on(start: Machine, count: u64, image: &mut [u8], failed: &mut u8) -> Ended
+    ensures { λ r. ⌜ (now (failed .exit) ≡ 0 → Gives (longRun (length (now (image .entry))) count idle start) (now (image .entry)) r (now (image .exit))) ⌝ }
+    ensures { λ r. ⌜ Kept (now (failed .entry)) (now (failed .exit)) ⌝ }
+{
+    let mut machine = start;
     let mut made: u64 = 0;
     while PART < count - made {
-        let part = trace_part(machine, PART, image);
-        if !part.written {
-            return FAILED;
+        let ended = trace_part(machine, PART, image, failed);
+        if *failed != 0 {
+            return ended;
         }
-        let ended = part.ended;
         let reason = ended.reason;
-        machine = ended.machine;
         if !reason.is_made() {
-            let steps = std::num::wrapping_add_u64(made, ended.steps);
-            return say_ending(
-                index,
-                Goal::Unnamed,
-                Ended::new(reason, steps, machine),
-                image,
-            );
+            return Ended::new(reason, made + ended.steps, ended.machine);
         }
+        machine = ended.machine;
         made += PART;
     }
-    let part = trace_part(machine, count - made, image);
-    if !part.written {
-        return FAILED;
-    }
-    let ended = part.ended;
-    let reason = ended.reason;
-    let steps = std::num::wrapping_add_u64(made, ended.steps);
-    say_ending(
-        index,
-        Goal::Unnamed,
-        Ended::new(reason, steps, ended.machine),
-        image,
-    )
+    let last = trace_part(machine, count - made, image, failed);
+    let reason = last.reason;
+    Ended::new(reason, made + last.steps, last.machine)
 }
 
-// An image of another length has no state to start with.
-fn trace_image(index: usize, count: u64, image: &mut [u8]) -> u8 {
-    if image.len() != FULL_MEMORY {
-        let ended = Ended::new(Reason::MemoryNotFull, 0, start_image(image));
-        return say_ending(index, Goal::Unnamed, ended, image);
+// The run of an image, with its lines.
+fn trace_run(count: u64, image: &mut [u8], failed: &mut u8) -> Ended
+    ensures { λ r. ⌜ (now (failed .exit) ≡ 0 → Gives (longImageRun count (length (now (image .entry)))) (now (image .entry)) r (now (image .exit))) ⌝ }
+    ensures { λ r. ⌜ Kept (now (failed .entry)) (now (failed .exit)) ⌝ }
+{
+    let machine = start_image(image);
+    write_start(machine, image.len(), failed);
+    trace_on(machine, count, image, failed)
+}
+
+// Traces an image, and answers its status.
+fn trace_image(index: usize, count: u64, image: &mut [u8], failed: &mut u8) -> u8
+    ensures { λ r. ⌜ r ≡ firstOf (now (failed .exit)) (traceStatus count (now (image .entry))) ⌝ }
+    ensures { λ r. ⌜ Kept (now (failed .entry)) (now (failed .exit)) ⌝ }
+{
+    let ended = trace_run(count, image, failed);
+    if *failed != 0 {
+        return *failed;
     }
-    trace_run(index, count, image)
+    say_ending(index, Goal::Unnamed, ended, image)
 }
 
 // Traces the image that an argument names.
 fn trace_argument(index: usize, count: u64) -> u8 {
     let mut image = image_buffer();
     let input = read_input(index, &mut image);
-    if input.status != 0 {
-        return input.status;
-    }
     let size = input.size;
-    trace_image(index, count, &mut image[..size])
+    let mut failed = input.status;
+    if failed != 0 {
+        return failed;
+    }
+    trace_image(index, count, &mut image[..size], &mut failed)
 }
 
 fn trace_by_arguments() -> u8 {

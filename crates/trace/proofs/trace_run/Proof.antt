@@ -1,47 +1,19 @@
--- The parts never pass the count.
-use Prim.Native.Nat.{_-_, _≤_}
-use mathlib.Core.Path.{_≡_}
+-- The run refuses an image of another length by itself.
+use mathlib.Core.Path.{_∙_}
+use Rattle.manual.specs.Theorems.StepLaws.{long-short}
+use Rattle.reporting.specs.Laws.{started}
+use Rattle.outcome.specs.Kept.{kept-on}
 use borrow.Author.Needs.{needs}
-use lib.ListN.{length}
 use Rattle.trace.proofs.trace_run.Statement.{statement}
 use Rattle.trace.proofs.trace_run.Tie as tie
 
-abbrev Inv-loop : tie.InvT-loop
-Inv-loop index count image₀ machine₀ made₀ image machine made = (made ≤ count) × (length image ≡ length image₀)
-
-abbrev μ-loop : tie.MeasureT-loop
-μ-loop index count image₀ machine₀ made₀ image machine made = count - made
+returns : tie.Need-returns
+returns c =
+    let c₂ = c .before .before in
+    let c₅ = c₂ .before .before .before in (
+      (λ z. started _ _ (λ s other. long-short _ _ _ s _ other) ∙ rw (c₅ .before .before .start-image .ensures) at (c₂ .trace-on .ensures .0 z)),
+      kept-on (c₅ .write-start .ensures) (c₂ .trace-on .ensures .1),
+    )
 
 pub trace-run-spec : {M : Type 1} → statement M
-trace-run-spec =
-    tie.close
-    (tie.spec
-    Inv-loop
-    μ-loop
-    (search needs)
-    (search needs)
-    (search needs)
-    (search needs)
-    (search needs)
-    (search needs)
-    (search needs)
-    (search needs)
-    (search needs)
-    (search needs)
-    (search needs)
-    (search needs)
-    (search needs)
-    (search needs)
-    (search needs)
-    (search needs)
-    (search needs)
-    (search needs)
-    (search needs)
-    (search needs)
-    (search needs)
-    (search needs)
-    (search needs)
-    (search needs)
-    (search needs)
-    (search needs)
-    (search needs))
+trace-run-spec = tie.close (tie.spec (search needs) (search needs) (search needs) (search needs) returns)

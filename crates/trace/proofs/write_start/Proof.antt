@@ -6,8 +6,11 @@ use borrow.Author.Needs.{needs}
 use Rattle.trace.proofs.write_start.Statement.{statement}
 use Rattle.trace.proofs.write_start.Tie as tie
 
-slice-aggregate-write-output : tie.Need-slice-aggregate-write-output
-slice-aggregate-write-output c = sym (length-take-le _ _ (omega (arith, c .before .before .put-line .ensures .1)))
+slice-aggregate-write-or-fail : tie.Need-slice-aggregate-write-or-fail
+slice-aggregate-write-or-fail c = sym (length-take-le _ _ (omega (arith, c .before .before .put-line .ensures .1)))
+
+returns-2 : tie.Need-returns-2
+returns-2 c = c .write-or-fail .ensures
 
 pub write-start-spec : {M : Type 1} → statement M
-write-start-spec = tie.close (tie.spec (search needs) (search needs) (search needs) slice-aggregate-write-output (search needs) (search needs))
+write-start-spec = tie.close (tie.spec (search needs) (search needs) (search needs) (search needs) slice-aggregate-write-or-fail (search needs) returns-2)

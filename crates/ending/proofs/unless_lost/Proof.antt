@@ -1,0 +1,12 @@
+-- By the test.
+use Rattle.ending.proofs.unless_lost.Statement.{statement}
+use Rattle.ending.proofs.unless_lost.Tie as tie
+
+returns : tie.Need-returns
+returns c = rw (c .if1 .taken)
+
+returns-2 : tie.Need-returns-2
+returns-2 c = rw (c .if1 .left)
+
+pub unless-lost-spec : {M : Type 1} → statement M
+unless-lost-spec = tie.close (tie.spec returns returns-2)

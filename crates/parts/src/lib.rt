@@ -1,0 +1,1 @@
+// A long run in parts: laws only, for the loops of go and trace.
