@@ -5,6 +5,8 @@
  * bit 56 the last level of NMI, which is the one at the last step made: set where it was low. A number without that bit says
  * high, as it is at first. Bits 4 and 5 of a status given, and bits 57 to 63 of a number given, do not matter. In a number
  * that a function makes, the first are 1, as in the status that PHP pushes, and the second 0.
+ *
+ * What holds of every call of the functions that make steps is stated in crates/mos6502/specs/Correct.antt, and proved.
  */
 #ifndef MOS6502_H
 #define MOS6502_H

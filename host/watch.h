@@ -31,7 +31,9 @@ enum { MOS6502_HALTED = 13 };
  *   0  all `bound` steps were made; the program was still running, and nothing says that it finished
  * *steps is written, with the number of steps made, and *place, with the first sealed address that the next step would read, 0
  * with every answer but 13. The numbers and the memory are those after the steps made; where none was made, they are as they
- * were, the registers' number to the bit. Nothing that it gives depends on a sealed byte. */
+ * were, the registers' number to the bit. No number that comes back depends on a sealed byte, and no byte that is left at any
+ * other address. The sealed bytes themselves are still in the memory, as they were or as the run stored them: a host that
+ * writes the memory out hands them out. Put zeros there before the run; none of them is read, so no answer changes. */
 uint8_t mos6502_watched_run(uint64_t *registers, uint64_t *cycles, uint64_t *steps, uint16_t *place, uint64_t bound,
                             uint8_t lines, const uint8_t *pages, uint8_t *memory, size_t length);
 

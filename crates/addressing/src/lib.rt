@@ -4,7 +4,7 @@ ghost use mathlib.Core.List.{[], _∷_};
 ghost use Prim.Native.Nat.{_+_};
 ghost use lib.ListN.{length, getD};
 ghost use Rattle.manual.specs.Micro.{Gives};
-ghost use Rattle.manual.specs.Words.{low, joined};
+ghost use Rattle.manual.specs.Words.{lowByte, joined};
 ghost use Rattle.manual.specs.Addressing.{operand, plain, indexed, silent, target};
 ghost use Rattle.manual.specs.Instructions.{advanced};
 ghost use Rattle.manual.specs.Stepping.{fullMemory};
@@ -56,7 +56,7 @@ fn read_pointer(memory: &[u8], high: u8, byte: u8) -> [u8; 2]
     ensures { λ r.
         ⌜ r
         ≡ getD (now (memory .entry)) (joined high byte) 0
-        ∷ getD (now (memory .entry)) (joined high (low (byte + 1))) 0
+        ∷ getD (now (memory .entry)) (joined high (lowByte (byte + 1))) 0
         ∷ [] ⌝ }
 {
     read_address(

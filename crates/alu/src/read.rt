@@ -1,7 +1,7 @@
 // What the operations that read a byte do with it.
 ghost use mathlib.Core.Bool.{cond};
 ghost use mathlib.Core.Path.{_≡_};
-ghost use Rattle.manual.specs.Instructions.{sum, difference, withOutput, taken};
+ghost use Rattle.manual.specs.Instructions.{sum, difference, withOutput, applied};
 use crate::flags::bit_test;
 use crate::flags::compare;
 use crate::flags::load_accumulator;
@@ -53,38 +53,38 @@ fn difference(value: u8, registers: Registers) -> ArithmeticOutput
 }
 
 fn add_with_carry(registers: Registers, value: u8) -> Registers
-    ensures { λ r. ⌜ r ≡ taken ReadOperation.ADC value registers ⌝ }
+    ensures { λ r. ⌜ r ≡ applied ReadOperation.ADC value registers ⌝ }
 {
     with_output(registers, sum(value, registers))
 }
 
 fn subtract_with_carry(registers: Registers, value: u8) -> Registers
-    ensures { λ r. ⌜ r ≡ taken ReadOperation.SBC value registers ⌝ }
+    ensures { λ r. ⌜ r ≡ applied ReadOperation.SBC value registers ⌝ }
 {
     with_output(registers, difference(value, registers))
 }
 
 fn and(registers: Registers, value: u8) -> Registers
-    ensures { λ r. ⌜ r ≡ taken ReadOperation.AND value registers ⌝ }
+    ensures { λ r. ⌜ r ≡ applied ReadOperation.AND value registers ⌝ }
 {
     load_accumulator(registers, registers.accumulator & value)
 }
 
 fn inclusive_or(registers: Registers, value: u8) -> Registers
-    ensures { λ r. ⌜ r ≡ taken ReadOperation.ORA value registers ⌝ }
+    ensures { λ r. ⌜ r ≡ applied ReadOperation.ORA value registers ⌝ }
 {
     load_accumulator(registers, registers.accumulator | value)
 }
 
 fn exclusive_or(registers: Registers, value: u8) -> Registers
-    ensures { λ r. ⌜ r ≡ taken ReadOperation.EOR value registers ⌝ }
+    ensures { λ r. ⌜ r ≡ applied ReadOperation.EOR value registers ⌝ }
 {
     load_accumulator(registers, registers.accumulator ^ value)
 }
 
 // What an operation does with the byte that it read.
 pub fn apply_read(operation: ReadOperation, registers: Registers, value: u8) -> Registers
-    ensures { λ r. ⌜ r ≡ taken operation value registers ⌝ }
+    ensures { λ r. ⌜ r ≡ applied operation value registers ⌝ }
 {
     match operation {
         ReadOperation::ADC => add_with_carry(registers, value),

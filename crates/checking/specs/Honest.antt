@@ -19,8 +19,8 @@ use Rattle.manual.specs.Theorems.StepLaws.{step-whole}
 use Rattle.manual.specs.Theorems.Within.{Bytes}
 use Rattle.manual.specs.Theorems.Answers.{step-answers}
 use Rattle.manual.specs.Theorems.RunAnswers.{Leads, Ends, all-made, no-cycle-room, not-an-opcode, RunTable, ran, memory-not-full, bound-too-high, run-answers}
-use Rattle.manual.specs.Theorems.Ranges.{StepKept, step-ranges}
-use Rattle.manual.specs.Theorems.Interrupts.{recorded}
+use Rattle.manual.specs.Theorems.Ranges.{StepInRange, step-ranges}
+use Rattle.manual.specs.Theorems.Serving.{recorded}
 use Rattle.state_lines.specs.Lines.{Spellable}
 use Rattle.undo.specs.Following.{OneStep}
 use Rattle.checking.specs.declared.Last.the-variants.{After}
@@ -51,7 +51,7 @@ module _ (s : Machine) (m : List ℕ) (full : length m ≡ fullMemory) {t : Mach
   -- and leaves a state that can be printed
   made-spellable : Spellable s → Bytes m → Spellable t × Bytes m₁
   made-spellable h b =
-      let kept = subst (λ (w : Stepped × List ℕ). StepKept (s .cycles) (w .0) × Bytes (w .1)) (one .1) (step-ranges (length m) idle s m (h .registers) b) in (
+      let kept = subst (λ (w : Stepped × List ℕ). StepInRange (s .cycles) (w .0) × Bytes (w .1)) (one .1) (step-ranges (length m) idle s m (h .registers) b) in (
         record {
           registers = kept .0 .0 .registers;
           cycles = omega (arith, kept .0 .0 .cycles, has-room);

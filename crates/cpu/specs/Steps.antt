@@ -6,7 +6,7 @@ use native.Mathlib.Omega.{arith}
 use Rattle.instruction.specs.declared.Decoded.{Decoded}
 use Rattle.instruction.specs.declared.Decoded.the-variants.{Defined, Undefined}
 use Rattle.instruction.specs.Opcodes.{decoded}
-use Rattle.instruction.specs.Table.{ruled}
+use Rattle.instruction.specs.Table.{table-rules}
 use Rattle.manual.specs.declared.Lines.{Lines}
 use Rattle.manual.specs.declared.Machine.{Machine}
 use Rattle.manual.specs.declared.Stepped.{Stepped}
@@ -46,7 +46,7 @@ module _ (lines : Lines) (s : Machine) (m : List ℕ) (room : s .cycles ≤ high
       subst (λ (p : Dispatched × List ℕ). StepsBy lines s m (p .0) (p .1)) (sym (exec-bind (perform (e .instruction) (e .mode) (s .registers)) _ m))
       (record {
         gives = step-defined lines s m e {f = w .0} room none is refl;
-        few = omega (arith, ruled (opcodeOf s m) e is .total-most, extra-most (e .instruction) (e .mode) (s .registers) m);
+        few = omega (arith, table-rules .ruled (opcodeOf s m) e is .total-most, extra-most (e .instruction) (e .mode) (s .registers) m);
       })
   by-meaning Undefined is = record { gives = step-undefined lines s m room none is; few = omega arith }
 

@@ -12,7 +12,7 @@ use Rattle.manual.specs.declared.Reason.{Reason}
 use Rattle.manual.specs.declared.Reason.the-variants.{Made, MemoryNotFull, NoCycleRoom, NotAnOpcode, BoundTooHigh}
 use Rattle.manual.specs.Micro.{Micro, done, _>>=_, exec, Gives}
 use Rattle.manual.specs.Outcomes.{isMade, stepped, ended}
-use Rattle.manual.specs.Stepping.{stepFull, runFull}
+use Rattle.manual.specs.Stepping.{runWhile, stepFull, runFull}
 use Rattle.manual.specs.Theorems.Programs.{exec-then, exec-bind}
 use Rattle.cpu.specs.declared.Travelled.{Travelled}
 
@@ -62,7 +62,7 @@ run-in w = (w .0 .ended, w .1)
 
 same-run : (n k first : ℕ) (lines : Lines) (s : Machine) (m : List ℕ)
     → run-in (exec (travelling n k first lines s) m) ≡ exec (runFull n k lines s) m
-unfolding travelling runFull run-in
+unfolding travelling runFull runWhile run-in
 same-run zero k first lines s m = refl
 same-run (suc n) k first lines s m =
     let w = exec (stepFull lines s) m in

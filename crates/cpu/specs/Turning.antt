@@ -23,7 +23,7 @@ use Rattle.manual.specs.Theorems.Programs.{exec-bind, then}
 use Rattle.manual.specs.Theorems.StepLaws.{due-none, step-late, step-serves, step-undefined, step-defined}
 use Rattle.manual.specs.Theorems.Answers.{Way, late, serves, undefined, ready, way, not-quiet}
 use Rattle.manual.specs.Theorems.RunAnswers.{Leads, Ends, all-made, no-cycle-room, not-an-opcode, run-ends}
-use Rattle.manual.specs.Theorems.Interrupts.{led-level}
+use Rattle.manual.specs.Theorems.Serving.{led-level}
 use Rattle.manual.specs.Theorems.Lunch.{added, full-lunch, full-stopped}
 use Rattle.cpu.specs.declared.Travelled.{Travelled}
 use Rattle.cpu.specs.Travelling.{travelled, travelling, travel-end, travel-made, travel-halts, travel-run, travel-step}

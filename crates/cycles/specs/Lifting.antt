@@ -17,8 +17,7 @@ use Rattle.manual.specs.Micro.{exec, Gives}
 use Rattle.manual.specs.Outcomes.{machineOf, ended}
 use Rattle.manual.specs.Interrupts.{served}
 use Rattle.manual.specs.Instructions.{perform}
-use Rattle.manual.specs.Stepping.{highestCount, runFull}
-use Rattle.manual.specs.Spending.{spendFull}
+use Rattle.manual.specs.Stepping.{runWhile, highestCount, runFull, spendFull}
 use Rattle.manual.specs.Theorems.StepLaws.{step-late, step-serves, step-undefined, step-defined, run-end, run-more, run-stop}
 use Rattle.manual.specs.Theorems.Answers.{Way, late, serves, undefined, ready, way}
 use Rattle.manual.specs.Theorems.RunAnswers.{Leads, Ends, all-made, no-cycle-room, not-an-opcode, run-ends}
@@ -93,7 +92,7 @@ module _ (from limit : ℕ) (lines : Lines) where
 
   -- a run by cycles and the lifted run, step by step
   pub lifted-run : (n k : ℕ) (s : Machine) (m : List ℕ) → exec (spendFull n until k lines s) m ≡ whole n k s m
-  unfolding spendFull
+  unfolding spendFull runWhile
   lifted-run zero k s m = sym (ap (byCycles until d) (run-end k lines (lifted d s) m) ∙ here-made k s m)
   lifted-run (suc n) k s m = by-limit (λ s₁ m₁. lifted-run n (k + 1) s₁ m₁) (decLt (s .cycles) until)
     where

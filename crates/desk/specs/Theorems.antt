@@ -19,7 +19,7 @@ use Rattle.manual.specs.Theorems.OneResult.{one-result}
 use Rattle.manual.specs.Theorems.Sealed.{Differ, Unsealed, Kept, step-sealed}
 use Rattle.manual.specs.Theorems.StepLaws.{step-whole}
 use Rattle.manual.specs.Theorems.Answers.{step-answers}
-use Rattle.manual.specs.Theorems.Interrupts.{recorded}
+use Rattle.manual.specs.Theorems.Serving.{recorded}
 use Rattle.desk.specs.declared.StepAnswer.{StepAnswer}
 use Rattle.desk.specs.Record.{told, stepRecord}
 

@@ -6,12 +6,11 @@ use Rattle.registers.specs.StatusByte.{pulledStatus}
 use Rattle.registers.specs.State.{setS, setPC, setStatus, setI, flags}
 use Rattle.instruction.specs.Opcodes.{rows, decoded}
 use Rattle.manual.specs.Micro.{exec}
-use Rattle.manual.specs.IndexRegisters.{internal}
+use Rattle.manual.specs.Internal.{internal}
 use Rattle.manual.specs.Stack.{push, pushAddress}
 use Rattle.manual.specs.Interrupts.{enter, idle}
 use Rattle.manual.specs.Instructions.{perform}
-use Rattle.manual.specs.Stepping.{act, attend, stepFull}
-use Rattle.manual.specs.Spending.{spendFull, runCycles}
+use Rattle.manual.specs.Stepping.{runWhile, act, attend, stepFull, spendFull, runCycles}
 use Rattle.manual.specs.Theorems.Laying.{Laid, machine, memory}
 
 -- what is spent and made from a count of 0, with idle lines and the registers of a report
@@ -21,9 +20,9 @@ spentAndMade limit bytes =
 
 -- Both bounds are reached: BRK takes 7 cycles, one of them the only one that was left; NOP takes 2.
 pub cycles-reached : (spentAndMade 1 [] ≡ (1 + 6, 1)) × (spentAndMade 8 [] ≡ (8 + 6, 2))
-unfolding pulledStatus rows decoded setS setPC setStatus setI flags push pushAddress enter perform act attend stepFull spendFull runCycles
+unfolding pulledStatus rows decoded setS setPC setStatus setI flags push pushAddress enter perform act attend stepFull spendFull runWhile runCycles
 cycles-reached = (refl, refl)
 
 pub steps-reached : (spentAndMade 3 ((0x0200, 0xEA ∷ 0xEA ∷ 0xEA ∷ []) ∷ []) ≡ (4, (3 + 1) / 2)) × (spentAndMade 4 ((0x0200, 0xEA ∷ 0xEA ∷ 0xEA ∷ []) ∷ []) ≡ (4, (4 + 1) / 2))
-unfolding pulledStatus rows decoded setPC setStatus internal perform act attend stepFull spendFull runCycles
+unfolding pulledStatus rows decoded setPC setStatus internal perform act attend stepFull spendFull runWhile runCycles
 steps-reached = (refl, refl)

@@ -13,10 +13,10 @@ use Rattle.manual.specs.declared.Reason.the-variants.{Made, NoCycleRoom}
 use Rattle.manual.specs.Micro.{exec}
 use Rattle.manual.specs.Outcomes.{machineOf, ended}
 use Rattle.manual.specs.Stack.{push, pushAddress}
-use Rattle.manual.specs.IndexRegisters.{internal}
+use Rattle.manual.specs.Internal.{internal}
 use Rattle.manual.specs.Interrupts.{enter, served, idle}
 use Rattle.manual.specs.Instructions.{perform}
-use Rattle.manual.specs.Stepping.{act, attend, stepFull, step, runFull, run}
+use Rattle.manual.specs.Stepping.{runWhile, act, attend, stepFull, step, runFull, run}
 use Rattle.manual.specs.Theorems.Laying.{memory, machine}
 use Rattle.examples.specs.Steps.{Example, outcome, expected, example, leaving}
 
@@ -75,5 +75,5 @@ line-examples = refl
 
 -- Both lines are held low in a run of two steps: NMI is served, and then I is set, so that the instruction at 3000 is carried out.
 pub run-example : exec (run 65536 2 bothLow (machine 0 0x0234 0 0 0 0xFF 0x30)) (memory bells) .0 ≡ ended Made 2 (wasLow (machine 9 0x3001 0 0 0 0xFC 0x34))
-unfolding pulledStatus statusByte rows decoded setPC setS setStatus setI flags push pushAddress internal served enter perform act attend stepFull runFull run
+unfolding pulledStatus statusByte rows decoded setPC setS setStatus setI flags push pushAddress internal served enter perform act attend stepFull runFull runWhile run
 run-example = refl

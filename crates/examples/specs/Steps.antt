@@ -12,18 +12,18 @@ use Rattle.manual.specs.Words.{signed, outside, around}
 use Rattle.registers.specs.State.{setA, setX, setY, setS, setPC, setStatus, setNZ, setV, setC, setI, flags}
 use Rattle.manual.specs.Flags.{shown}
 use Rattle.manual.specs.Arithmetic.{sumOverflows, differenceOverflows, binarySum, binaryDifference}
-use Rattle.manual.specs.Decimal.{addedDigit, takenDigit, decimalSum, decimalDifference}
+use Rattle.manual.specs.Decimal.{decimalSum, decimalDifference}
 use Rattle.manual.specs.Branching.{tested, branchTarget, branched}
 use Rattle.manual.specs.Addressing.{target}
-use Rattle.manual.specs.IndexRegisters.{internal}
+use Rattle.manual.specs.Internal.{internal}
 use Rattle.manual.specs.Stack.{push, pull, pushAddress, pullAddress}
 use Rattle.manual.specs.Shifting.{modifiedFlags}
 use Rattle.manual.specs.Interrupts.{enter, idle}
-use Rattle.manual.specs.Instructions.{sum, difference, withOutput, taken, modify, perform}
+use Rattle.manual.specs.Instructions.{sum, difference, withOutput, applied, modify, perform}
 use Rattle.manual.specs.declared.Reason.{Reason}
 use Rattle.manual.specs.declared.Reason.the-variants.{Made, NotAnOpcode}
 use Rattle.manual.specs.Outcomes.{ended}
-use Rattle.manual.specs.Stepping.{act, attend, stepFull, step, runFull, run}
+use Rattle.manual.specs.Stepping.{runWhile, act, attend, stepFull, step, runFull, run}
 use Rattle.manual.specs.Theorems.Laying.{machine, Laid, memory}
 
 -- a machine and a memory; the reason that a step gives, the machine that it leaves, and the byte that it leaves at a place
@@ -83,7 +83,7 @@ starred =
 
 -- The starred examples, together.
 pub starred-examples : map (outcome idle) starred ≡ map expected starred
-unfolding starred pulledStatus rows decoded signed outside around setA setX setY setS setPC setStatus setNZ setV setC setI flags shown sumOverflows differenceOverflows binarySum binaryDifference addedDigit decimalSum branchTarget branched target push sum difference withOutput taken perform act attend stepFull step
+unfolding starred pulledStatus rows decoded signed outside around setA setX setY setS setPC setStatus setNZ setV setC setI flags shown sumOverflows differenceOverflows binarySum binaryDifference decimalSum branchTarget branched target push sum difference withOutput applied perform act attend stepFull step
 starred-examples = refl
 
 -- The examples without a star, and some for rules that no theorem says in other terms.
@@ -118,11 +118,11 @@ others =
     ∷ []
 
 pub other-examples : map (outcome idle) others ≡ map expected others
-unfolding others pulledStatus statusByte rows decoded signed outside around setA setX setS setPC setStatus setNZ setV setC setI flags shown differenceOverflows takenDigit decimalDifference tested branchTarget branched target push pull pushAddress pullAddress difference withOutput taken internal modifiedFlags modify enter perform act attend stepFull step
+unfolding others pulledStatus statusByte rows decoded signed outside around setA setX setS setPC setStatus setNZ setV setC setI flags shown differenceOverflows decimalDifference tested branchTarget branched target push pull pushAddress pullAddress difference withOutput applied internal modifiedFlags modify enter perform act attend stepFull step
 other-examples = refl
 
 -- The report's example: LDA #05, then a byte that is no opcode. The report prints `3 1 2 0202 05 00 00 FF 34`.
 pub report-image : exec (run 65536 1000 idle (machine 0 0x0200 0 0 0 0xFF 0x34)) (memory ((0xFFFD, 0x02 ∷ []) ∷ (0x0200, 0xA9 ∷ 0x05 ∷ 0x02 ∷ []) ∷ [])) .0
     ≡ ended NotAnOpcode 1 (machine 2 0x0202 0x05 0 0 0xFF 0x34)
-unfolding pulledStatus rows decoded setA setPC setStatus setNZ flags shown target taken perform act attend stepFull runFull run
+unfolding pulledStatus rows decoded setA setPC setStatus setNZ flags shown target applied perform act attend stepFull runFull runWhile run
 report-image = refl

@@ -6,7 +6,7 @@ use lib.ListN.{getD}
 use types.Run.{OneOf}
 use Rattle.registers.specs.declared.Registers.{Registers}
 use Rattle.instruction.specs.Opcodes.{decoded, rows}
-use Rattle.manual.specs.Words.{low, address, page, joined}
+use Rattle.manual.specs.Words.{lowByte, addressOf, page, joined}
 use Rattle.manual.specs.Addressing.{operand, target}
 use Rattle.manual.specs.Interrupts.{irqVector}
 use Rattle.manual.specs.ReadList.{firstOperand, pointerAt, pulled, listedEntry}
@@ -24,20 +24,20 @@ abbrev pub zeroPage : Registers → List ℕ → ℕ
 zeroPage r m = joined 0 (firstOperand r m)
 
 abbrev pub zeroPagePlus : ℕ → Registers → List ℕ → ℕ
-zeroPagePlus index r m = joined 0 (low (firstOperand r m + index))
+zeroPagePlus index r m = joined 0 (lowByte (firstOperand r m + index))
 
 abbrev pub firstAt : ℕ → List ℕ → ℕ
-firstAt counter m = getD m (address (counter + 1)) 0
+firstAt counter m = getD m (addressOf (counter + 1)) 0
 
 abbrev pub absolute : ℕ → List ℕ → ℕ
-absolute counter m = joined (getD m (address (counter + 2)) 0) (firstAt counter m)
+absolute counter m = joined (getD m (addressOf (counter + 2)) 0) (firstAt counter m)
 
 abbrev pub pointerX : Registers → List ℕ → ℕ
-pointerX r m = low (firstOperand r m + r .x)
+pointerX r m = lowByte (firstOperand r m + r .x)
 
 -- what a pointer in the zero page holds
 abbrev pub pointed : ℕ → List ℕ → ℕ
-pointed b m = joined (getD m (joined 0 (low (b + 1))) 0) (getD m (joined 0 b) 0)
+pointed b m = joined (getD m (joined 0 (lowByte (b + 1))) 0) (getD m (joined 0 b) 0)
 
 -- ---- the ways by number
 
@@ -48,15 +48,15 @@ readWays =
     ∷ (λ r m. operand r 1 ∷ zeroPagePlus (r .x) r m ∷ [])
     ∷ (λ r m. operand r 1 ∷ zeroPagePlus (r .y) r m ∷ [])
     ∷ (λ r m. operand r 1 ∷ operand r 2 ∷ absolute (r .counter) m ∷ [])
-    ∷ (λ r m. operand r 1 ∷ operand r 2 ∷ address (absolute (r .counter) m + r .x) ∷ [])
-    ∷ (λ r m. operand r 1 ∷ operand r 2 ∷ address (absolute (r .counter) m + r .y) ∷ [])
-    ∷ (λ r m. operand r 1 ∷ joined 0 (pointerX r m) ∷ joined 0 (low (pointerX r m + 1)) ∷ pointed (pointerX r m) m ∷ [])
-    ∷ (λ r m. operand r 1 ∷ zeroPage r m ∷ joined 0 (low (firstOperand r m + 1)) ∷ address (pointed (firstOperand r m) m + r .y) ∷ [])
+    ∷ (λ r m. operand r 1 ∷ operand r 2 ∷ addressOf (absolute (r .counter) m + r .x) ∷ [])
+    ∷ (λ r m. operand r 1 ∷ operand r 2 ∷ addressOf (absolute (r .counter) m + r .y) ∷ [])
+    ∷ (λ r m. operand r 1 ∷ joined 0 (pointerX r m) ∷ joined 0 (lowByte (pointerX r m + 1)) ∷ pointed (pointerX r m) m ∷ [])
+    ∷ (λ r m. operand r 1 ∷ zeroPage r m ∷ joined 0 (lowByte (firstOperand r m + 1)) ∷ addressOf (pointed (firstOperand r m) m + r .y) ∷ [])
     ∷ (λ r m. operand r 1 ∷ [])
     ∷ (λ r m. operand r 1 ∷ operand r 2 ∷ [])
     ∷ (λ r m. operand r 1 ∷ pointerAt 0 (pointerX r m))
     ∷ (λ r m. operand r 1 ∷ pointerAt 0 (firstOperand r m))
-    ∷ (λ r m. operand r 1 ∷ operand r 2 ∷ pointerAt (page (absolute (r .counter) m)) (low (absolute (r .counter) m)))
+    ∷ (λ r m. operand r 1 ∷ operand r 2 ∷ pointerAt (page (absolute (r .counter) m)) (lowByte (absolute (r .counter) m)))
     ∷ (λ r m. pulled r 1 ∷ [])
     ∷ (λ r m. pulled r 1 ∷ pulled r 2 ∷ [])
     ∷ (λ r m. pulled r 1 ∷ pulled r 2 ∷ pulled r 3 ∷ [])
@@ -70,10 +70,10 @@ storeWays =
     ∷ (λ r m. zeroPagePlus (r .x) r m ∷ [])
     ∷ (λ r m. zeroPagePlus (r .y) r m ∷ [])
     ∷ (λ r m. absolute (r .counter) m ∷ [])
-    ∷ (λ r m. address (absolute (r .counter) m + r .x) ∷ [])
-    ∷ (λ r m. address (absolute (r .counter) m + r .y) ∷ [])
+    ∷ (λ r m. addressOf (absolute (r .counter) m + r .x) ∷ [])
+    ∷ (λ r m. addressOf (absolute (r .counter) m + r .y) ∷ [])
     ∷ (λ r m. pointed (pointerX r m) m ∷ [])
-    ∷ (λ r m. address (pointed (firstOperand r m) m + r .y) ∷ [])
+    ∷ (λ r m. addressOf (pointed (firstOperand r m) m + r .y) ∷ [])
     ∷ (λ r m. joined 1 (r .stack .0) ∷ [])
     ∷ (λ r m. joined 1 (r .stack .0) ∷ pulled r 255 ∷ [])
     ∷ (λ r m. threePushed r)

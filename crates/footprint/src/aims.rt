@@ -3,7 +3,7 @@
 ghost use mathlib.Core.Path.{_≡_};
 ghost use Prim.Native.Nat.{_+_};
 ghost use lib.ListN.{length};
-ghost use Rattle.manual.specs.Words.{low, address, joined};
+ghost use Rattle.manual.specs.Words.{lowByte, addressOf, joined};
 ghost use Rattle.manual.specs.Stepping.{fullMemory};
 ghost use Rattle.footprint.specs.Ways.{firstAt, absolute, pointed};
 use memory::Address;
@@ -13,14 +13,14 @@ use memory::join;
 
 // The place so many bytes after the opcode.
 pub(crate) fn operand(counter: u16, count: u16) -> Address
-    ensures { λ r. ⌜ r .0 ≡ address (counter + count) ⌝ }
+    ensures { λ r. ⌜ r .0 ≡ addressOf (counter + count) ⌝ }
 {
     Address(counter).plus(count)
 }
 
 // The byte so many places above the stack pointer, in its page.
 pub(crate) fn above(pointer: u8, count: u8) -> Address
-    ensures { λ r. ⌜ r .0 ≡ joined 1 (low (pointer + count)) ⌝ }
+    ensures { λ r. ⌜ r .0 ≡ joined 1 (lowByte (pointer + count)) ⌝ }
 {
     join(1, std::num::wrapping_add_u8(pointer, count))
 }
@@ -36,7 +36,7 @@ pub(crate) fn zero_page(counter: u16, memory: &[u8]) -> ZeroPage
 // The same and an index.
 pub(crate) fn zero_page_plus(index: u8, counter: u16, memory: &[u8]) -> ZeroPage
     requires { ⌜ length (now memory) ≡ fullMemory ⌝ }
-    ensures { λ r. ⌜ r .0 ≡ low (firstAt counter (now (memory .entry)) + index) ⌝ }
+    ensures { λ r. ⌜ r .0 ≡ lowByte (firstAt counter (now (memory .entry)) + index) ⌝ }
 {
     zero_page(counter, memory).plus(index)
 }
@@ -52,7 +52,7 @@ pub(crate) fn absolute(counter: u16, memory: &[u8]) -> Address
 
 // An address and an index.
 pub(crate) fn indexed(base: Address, index: u8) -> Address
-    ensures { λ r. ⌜ r .0 ≡ address (base .0 + index) ⌝ }
+    ensures { λ r. ⌜ r .0 ≡ addressOf (base .0 + index) ⌝ }
 {
     base.plus(index as u16)
 }

@@ -3,7 +3,7 @@ ghost use mathlib.Core.Path.{_≡_};
 ghost use mathlib.Core.List.{[], _∷_};
 ghost use Prim.Native.Nat.{_+_, _<_};
 ghost use lib.ListN.{length};
-ghost use Rattle.manual.specs.Words.{low, address, page, joined};
+ghost use Rattle.manual.specs.Words.{lowByte, addressOf, page, joined};
 ghost use Rattle.manual.specs.Stepping.{fullMemory};
 ghost use Rattle.manual.specs.ReadList.{pointerAt};
 ghost use Rattle.footprint.specs.Places.{footprintOf};
@@ -25,14 +25,14 @@ use registers::Registers;
 
 // The opcode, its operand and where that leads.
 fn past_operand(target: Address, counter: u16) -> Footprint
-    ensures { λ r. ⌜ r ≡ footprintOf (counter ∷ address (counter + 1) ∷ target .0 ∷ []) ⌝ }
+    ensures { λ r. ⌜ r ≡ footprintOf (counter ∷ addressOf (counter + 1) ∷ target .0 ∷ []) ⌝ }
 {
     Footprint::three(Address(counter), operand(counter, 1), target)
 }
 
 // The opcode, its two operands and where they lead.
 fn past_operands(target: Address, counter: u16) -> Footprint
-    ensures { λ r. ⌜ r ≡ footprintOf (counter ∷ address (counter + 1) ∷ address (counter + 2) ∷ target .0 ∷ []) ⌝ }
+    ensures { λ r. ⌜ r ≡ footprintOf (counter ∷ addressOf (counter + 1) ∷ addressOf (counter + 2) ∷ target .0 ∷ []) ⌝ }
 {
     Footprint::four(
         Address(counter),
@@ -44,7 +44,7 @@ fn past_operands(target: Address, counter: u16) -> Footprint
 
 // The opcode, its operand and the two bytes of a pointer in the zero page.
 fn to_pointer(pointer: ZeroPage, counter: u16) -> Footprint
-    ensures { λ r. ⌜ r ≡ footprintOf (counter ∷ address (counter + 1) ∷ pointerAt 0 (pointer .0)) ⌝ }
+    ensures { λ r. ⌜ r ≡ footprintOf (counter ∷ addressOf (counter + 1) ∷ pointerAt 0 (pointer .0)) ⌝ }
 {
     Footprint::four(
         Address(counter),
@@ -59,7 +59,7 @@ fn past_pointer(pointer: ZeroPage, target: Address, counter: u16) -> Footprint
     ensures { λ r.
         ⌜ r
         ≡ footprintOf
-        (counter ∷ address (counter + 1) ∷ joined 0 (pointer .0) ∷ joined 0 (low (pointer .0 + 1)) ∷ target .0 ∷ []) ⌝ }
+        (counter ∷ addressOf (counter + 1) ∷ joined 0 (pointer .0) ∷ joined 0 (lowByte (pointer .0 + 1)) ∷ target .0 ∷ []) ⌝ }
 {
     Footprint::five(
         Address(counter),
@@ -76,9 +76,9 @@ fn to_jump_pointer(pointer: Address, counter: u16) -> Footprint
         ⌜ r
         ≡ footprintOf
         (counter
-        ∷ address (counter + 1)
-        ∷ address (counter + 2)
-        ∷ pointerAt (page (pointer .0)) (low (pointer .0))) ⌝ }
+        ∷ addressOf (counter + 1)
+        ∷ addressOf (counter + 2)
+        ∷ pointerAt (page (pointer .0)) (lowByte (pointer .0))) ⌝ }
 {
     let high = pointer.high();
     let low = pointer.low();

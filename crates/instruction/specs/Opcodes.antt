@@ -27,11 +27,16 @@ Row = record { opcode : ℕ; entry : Entry }
 abbrev pub row : Instruction → Column → ℕ → Row
 row i c k = record { opcode = k; entry = record { instruction = i; mode = c .0; cycles = c .1 } }
 
--- one operation across its columns
+-- one operation across its columns, with an opcode for each
 abbrev pub across : List Column → Instruction → List ℕ → List Row
 across [] i ks = []
 across (c ∷ cs) i [] = []
 across (c ∷ cs) i (k ∷ ks) = row i c k ∷ across cs i ks
+
+-- several operations in one column, each with its opcode
+abbrev pub each : Column → List (Instruction × ℕ) → List Row
+each c [] = []
+each c (p ∷ ps) = row (p .0) c (p .1) ∷ each c ps
 
 -- The columns by class. A page cross adds to what some reads take, never to a store or a modification.
 abbrev pub reading : List Column
@@ -50,29 +55,6 @@ modifying = (Accumulator, 2) ∷ (ZeroPage, 5) ∷ (ZeroPageX, 6) ∷ (Absolute,
 abbrev pub modifyingMemory : List Column
 modifyingMemory = (ZeroPage, 5) ∷ (ZeroPageX, 6) ∷ (Absolute, 6) ∷ (AbsoluteX, 7) ∷ []
 
--- X is loaded and stored with Y as the index, and Y with X
-abbrev pub loadingX : List Column
-loadingX = (Immediate, 2) ∷ (ZeroPage, 3) ∷ (ZeroPageY, 4) ∷ (Absolute, 4) ∷ (AbsoluteY, 4) ∷ []
-
-abbrev pub loadingY : List Column
-loadingY = (Immediate, 2) ∷ (ZeroPage, 3) ∷ (ZeroPageX, 4) ∷ (Absolute, 4) ∷ (AbsoluteX, 4) ∷ []
-
-abbrev pub storingX : List Column
-storingX = (ZeroPage, 3) ∷ (ZeroPageY, 4) ∷ (Absolute, 4) ∷ []
-
-abbrev pub storingY : List Column
-storingY = (ZeroPage, 3) ∷ (ZeroPageX, 4) ∷ (Absolute, 4) ∷ []
-
-abbrev pub comparingIndex : List Column
-comparingIndex = (Immediate, 2) ∷ (ZeroPage, 3) ∷ (Absolute, 4) ∷ []
-
-abbrev pub testing : List Column
-testing = (ZeroPage, 3) ∷ (Absolute, 4) ∷ []
-
--- one opcode in one mode
-abbrev pub single : Instruction → AddressingMode → ℕ → ℕ → List Row
-single i mode k cycles = row i (mode, cycles) k ∷ []
-
 unfoldable pub rows : List Row
 rows =
     across reading (Read ORA) (0x09 ∷ 0x05 ∷ 0x15 ∷ 0x0D ∷ 0x1D ∷ 0x19 ∷ 0x01 ∷ 0x11 ∷ [])
@@ -89,49 +71,26 @@ rows =
     ++ across modifying (Modify ROR) (0x6A ∷ 0x66 ∷ 0x76 ∷ 0x6E ∷ 0x7E ∷ [])
     ++ across modifyingMemory (Modify DEC) (0xC6 ∷ 0xD6 ∷ 0xCE ∷ 0xDE ∷ [])
     ++ across modifyingMemory (Modify INC) (0xE6 ∷ 0xF6 ∷ 0xEE ∷ 0xFE ∷ [])
-    ++ across loadingX (Read LDX) (0xA2 ∷ 0xA6 ∷ 0xB6 ∷ 0xAE ∷ 0xBE ∷ [])
-    ++ across loadingY (Read LDY) (0xA0 ∷ 0xA4 ∷ 0xB4 ∷ 0xAC ∷ 0xBC ∷ [])
-    ++ across storingX (Store STX) (0x86 ∷ 0x96 ∷ 0x8E ∷ [])
-    ++ across storingY (Store STY) (0x84 ∷ 0x94 ∷ 0x8C ∷ [])
-    ++ across comparingIndex (Read CPX) (0xE0 ∷ 0xE4 ∷ 0xEC ∷ [])
-    ++ across comparingIndex (Read CPY) (0xC0 ∷ 0xC4 ∷ 0xCC ∷ [])
-    ++ across testing (Read BIT) (0x24 ∷ 0x2C ∷ [])
-    ++ single JMP Absolute 0x4C 3
-    ++ single JMP BuggyIndirect 0x6C 5
-    ++ single JSR Absolute 0x20 6
-    ++ single (Branch BPL) Relative 0x10 2
-    ++ single (Branch BMI) Relative 0x30 2
-    ++ single (Branch BVC) Relative 0x50 2
-    ++ single (Branch BVS) Relative 0x70 2
-    ++ single (Branch BCC) Relative 0x90 2
-    ++ single (Branch BCS) Relative 0xB0 2
-    ++ single (Branch BNE) Relative 0xD0 2
-    ++ single (Branch BEQ) Relative 0xF0 2
-    ++ single BRK Implied 0x00 7
-    ++ single RTI Implied 0x40 6
-    ++ single RTS Implied 0x60 6
-    ++ single PHP Implied 0x08 3
-    ++ single PLP Implied 0x28 4
-    ++ single PHA Implied 0x48 3
-    ++ single PLA Implied 0x68 4
-    ++ single (Internal DEY) Implied 0x88 2
-    ++ single (Internal TAY) Implied 0xA8 2
-    ++ single (Internal INY) Implied 0xC8 2
-    ++ single (Internal INX) Implied 0xE8 2
-    ++ single (Internal CLC) Implied 0x18 2
-    ++ single (Internal SEC) Implied 0x38 2
-    ++ single (Internal CLI) Implied 0x58 2
-    ++ single (Internal SEI) Implied 0x78 2
-    ++ single (Internal TYA) Implied 0x98 2
-    ++ single (Internal CLV) Implied 0xB8 2
-    ++ single (Internal CLD) Implied 0xD8 2
-    ++ single (Internal SED) Implied 0xF8 2
-    ++ single (Internal TXA) Implied 0x8A 2
-    ++ single (Internal TXS) Implied 0x9A 2
-    ++ single (Internal TAX) Implied 0xAA 2
-    ++ single (Internal TSX) Implied 0xBA 2
-    ++ single (Internal DEX) Implied 0xCA 2
-    ++ single (Internal NOP) Implied 0xEA 2
+    ++ across ((Immediate, 2) ∷ (ZeroPage, 3) ∷ (ZeroPageY, 4) ∷ (Absolute, 4) ∷ (AbsoluteY, 4) ∷ []) (Read LDX) (0xA2 ∷ 0xA6 ∷ 0xB6 ∷ 0xAE ∷ 0xBE ∷ [])
+    ++ across ((Immediate, 2) ∷ (ZeroPage, 3) ∷ (ZeroPageX, 4) ∷ (Absolute, 4) ∷ (AbsoluteX, 4) ∷ []) (Read LDY) (0xA0 ∷ 0xA4 ∷ 0xB4 ∷ 0xAC ∷ 0xBC ∷ [])
+    ++ across ((ZeroPage, 3) ∷ (ZeroPageY, 4) ∷ (Absolute, 4) ∷ []) (Store STX) (0x86 ∷ 0x96 ∷ 0x8E ∷ [])
+    ++ across ((ZeroPage, 3) ∷ (ZeroPageX, 4) ∷ (Absolute, 4) ∷ []) (Store STY) (0x84 ∷ 0x94 ∷ 0x8C ∷ [])
+    ++ across ((Immediate, 2) ∷ (ZeroPage, 3) ∷ (Absolute, 4) ∷ []) (Read CPX) (0xE0 ∷ 0xE4 ∷ 0xEC ∷ [])
+    ++ across ((Immediate, 2) ∷ (ZeroPage, 3) ∷ (Absolute, 4) ∷ []) (Read CPY) (0xC0 ∷ 0xC4 ∷ 0xCC ∷ [])
+    ++ across ((ZeroPage, 3) ∷ (Absolute, 4) ∷ []) (Read BIT) (0x24 ∷ 0x2C ∷ [])
+    ++ across ((Absolute, 3) ∷ (BuggyIndirect, 5) ∷ []) JMP (0x4C ∷ 0x6C ∷ [])
+    ++ across ((Absolute, 6) ∷ []) JSR (0x20 ∷ [])
+    ++ each (Relative, 2) ((Branch BPL, 0x10) ∷ (Branch BMI, 0x30) ∷ (Branch BVC, 0x50) ∷ (Branch BVS, 0x70) ∷ [])
+    ++ each (Relative, 2) ((Branch BCC, 0x90) ∷ (Branch BCS, 0xB0) ∷ (Branch BNE, 0xD0) ∷ (Branch BEQ, 0xF0) ∷ [])
+    ++ each (Implied, 7) ((BRK, 0x00) ∷ [])
+    ++ each (Implied, 6) ((RTI, 0x40) ∷ (RTS, 0x60) ∷ [])
+    ++ each (Implied, 3) ((PHP, 0x08) ∷ (PHA, 0x48) ∷ [])
+    ++ each (Implied, 4) ((PLP, 0x28) ∷ (PLA, 0x68) ∷ [])
+    ++ each (Implied, 2) ((Internal DEY, 0x88) ∷ (Internal TAY, 0xA8) ∷ (Internal INY, 0xC8) ∷ (Internal INX, 0xE8) ∷ [])
+    ++ each (Implied, 2) ((Internal CLC, 0x18) ∷ (Internal SEC, 0x38) ∷ (Internal CLI, 0x58) ∷ (Internal SEI, 0x78) ∷ [])
+    ++ each (Implied, 2) ((Internal TYA, 0x98) ∷ (Internal CLV, 0xB8) ∷ (Internal CLD, 0xD8) ∷ (Internal SED, 0xF8) ∷ [])
+    ++ each (Implied, 2) ((Internal TXA, 0x8A) ∷ (Internal TXS, 0x9A) ∷ (Internal TAX, 0xAA) ∷ (Internal TSX, 0xBA) ∷ [])
+    ++ each (Implied, 2) ((Internal DEX, 0xCA) ∷ (Internal NOP, 0xEA) ∷ [])
 
 abbrev pub find : ℕ → List Row → Decoded
 find k [] = Undefined

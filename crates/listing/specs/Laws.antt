@@ -13,7 +13,7 @@ use Rattle.instruction.specs.declared.Decoded.{Decoded}
 use Rattle.instruction.specs.declared.Decoded.the-variants.{Defined, Undefined}
 use Rattle.instruction.specs.Opcodes.{decoded}
 use Rattle.instruction.specs.Modes.{lengthOf}
-use Rattle.manual.specs.Words.{address}
+use Rattle.manual.specs.Words.{addressOf}
 use Rattle.opcodes.specs.Names.{nameOf}
 use Rattle.notation.specs.Operands.{operand}
 use Rattle.text.specs.Numerals.{hex2, spaced}
@@ -78,7 +78,7 @@ module _ (m : List ℕ) where
       rw (one, add-one at)
 
   pub next-byte : (at i count : ℕ) → i < count
-      → byteFields (bytesFrom m (at + i) (count - i)) ≡ spaced (hex2 (getD m (address (at + i)) 0)) ++ byteFields (bytesFrom m (at + (i + 1)) (count - (i + 1)))
+      → byteFields (bytesFrom m (at + i) (count - i)) ≡ spaced (hex2 (getD m (addressOf (at + i)) 0)) ++ byteFields (bytesFrom m (at + (i + 1)) (count - (i + 1)))
   next-byte at i count h =
       let one : count - i ≡ suc (count - (i + 1)) = omega arith in
       let next : at + (i + 1) ≡ suc (at + i) = omega arith in

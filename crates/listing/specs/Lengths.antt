@@ -75,7 +75,7 @@ field-length [] = refl
 field-length (b ∷ bs) = let rest = field-length bs in omega arith
 
 module _ (m : List ℕ) where
-  bytes-length : (at n : ℕ) → length (bytesFrom m at n) ≡ n
+  pub bytes-length : (at n : ℕ) → length (bytesFrom m at n) ≡ n
   bytes-length at zero = refl
   bytes-length at (suc n) = let rest = bytes-length (suc at) n in omega arith
 

@@ -8,7 +8,7 @@ use Rattle.instruction.specs.declared.Decoded.{Decoded}
 use Rattle.instruction.specs.declared.Decoded.the-variants.{Defined, Undefined}
 use Rattle.instruction.specs.Opcodes.{decoded}
 use Rattle.instruction.specs.Modes.{lengthOf}
-use Rattle.manual.specs.Words.{address}
+use Rattle.manual.specs.Words.{addressOf}
 use Rattle.laws.specs.Characters.{characters}
 use Rattle.text.specs.Numerals.{hex2, hex4, spaced}
 use Rattle.opcodes.specs.Names.{nameOf}
@@ -23,7 +23,7 @@ pub record Line : Type 0 where
 -- n bytes of a memory from an address on, from FFFF on to 0000
 abbrev pub bytesFrom : List ℕ → ℕ → ℕ → List ℕ
 bytesFrom m at zero = []
-bytesFrom m at (suc n) = getD m (address at) 0 ∷ bytesFrom m (suc at) n
+bytesFrom m at (suc n) = getD m (addressOf at) 0 ∷ bytesFrom m (suc at) n
 
 -- the bytes that a line takes, its words and the line, by what stands at its address
 abbrev pub size : Decoded → ℕ

@@ -1,16 +1,19 @@
 -- What a listing shows: every byte of its stretch once and in order, each line at the address of its bytes; and examples.
 use Prim.Native.Nat.{ℕ, zero, suc, _+_, _-_, _≤_}
-use mathlib.Core.Path.{_≡_, refl, ap, _∙_}
+use mathlib.Core.Path.{_≡_, refl, ap, sym, _∙_, subst}
 use mathlib.Core.Bool.{Bool, true, false, cond}
 use mathlib.Core.List.{List, [], _∷_, _++_}
 use native.Mathlib.Omega.{arith}
 use lib.Dec.{leb}
-use lib.ListN.{getD, replicate}
+use lib.ListN.{getD, length, replicate}
 use lib.Seq.{sets}
 use borrow.Author.Tests.{leb-true}
+use Rattle.instruction.specs.declared.Decoded.{Decoded}
+use Rattle.instruction.specs.declared.Decoded.the-variants.{Undefined}
 use Rattle.instruction.specs.Opcodes.{rows, decoded}
-use Rattle.manual.specs.Words.{address, signed, around}
+use Rattle.manual.specs.Words.{addressOf, signed, around}
 use Rattle.manual.specs.Branching.{branchTarget}
+use Rattle.manual.specs.Theorems.Programs.{either as by-test}
 use Rattle.laws.specs.Characters.{characters}
 use Rattle.text.specs.Numerals.{digit}
 use Rattle.opcodes.specs.Names.{mnemonic}
@@ -18,6 +21,7 @@ use Rattle.notation.specs.Operands.{written, operand}
 use Rattle.listing.specs.Lines.{Line, bytesFrom, size, lineOf, unknown, lines}
 use Rattle.listing.specs.Listing.{listing}
 use Rattle.listing.specs.Laws.{size-some}
+use Rattle.listing.specs.Lengths.{bytes-length}
 
 -- the bytes that some lines show
 abbrev pub bytesOf : List Line → List ℕ
@@ -35,13 +39,13 @@ module _ (m : List ℕ) where
   split : (at n k : ℕ) → bytesFrom m at n ++ bytesFrom m (at + n) k ≡ bytesFrom m at (n + k)
   split at zero k = same {a = at + 0} {b = at} {n = k} {k = 0 + k} (omega arith) (omega arith)
   split at (suc n) k =
-      ap (λ (bs : List ℕ). getD m (address at) 0 ∷ bytesFrom m (suc at) n ++ bs) (same {a = at + suc n} {b = suc at + n} {n = k} {k = k} (omega arith) refl)
-      ∙ ap (λ (bs : List ℕ). getD m (address at) 0 ∷ bs) (split (suc at) n k)
+      ap (λ (bs : List ℕ). getD m (addressOf at) 0 ∷ bytesFrom m (suc at) n ++ bs) (same {a = at + suc n} {b = suc at + n} {n = k} {k = k} (omega arith) refl)
+      ∙ ap (λ (bs : List ℕ). getD m (addressOf at) 0 ∷ bs) (split (suc at) n k)
       ∙ same {a = at} {b = at} {n = suc (n + k)} {k = suc n + k} refl (omega arith)
 
   unknown-bytes : (at n : ℕ) → bytesOf (unknown m at n) ≡ bytesFrom m at n
   unknown-bytes at zero = refl
-  unknown-bytes at (suc n) = ap (λ (bs : List ℕ). getD m (address at) 0 ∷ bs) (unknown-bytes (suc at) n)
+  unknown-bytes at (suc n) = ap (λ (bs : List ℕ). getD m (addressOf at) 0 ∷ bs) (unknown-bytes (suc at) n)
 
   shown : (at n covered : ℕ) → covered ≤ n → bytesOf (lines m at n covered) ≡ bytesFrom m (at + covered) (n - covered)
   unfolding lines
@@ -65,6 +69,38 @@ module _ (m : List ℕ) where
   -- Every byte of the stretch appears once and in order.
   pub every-byte : (at n : ℕ) → bytesOf (lines m at n 0) ≡ bytesFrom m at n
   every-byte at n = shown at n 0 (omega arith) ∙ same {a = at + 0} {b = at} {n = n - 0} {k = n} (omega arith) (omega arith)
+
+  -- some lines that begin at an address: each stands at the address of its bytes, and the next one after them
+  abbrev pub LinesAt : ℕ → List Line → Type 0
+  LinesAt at [] = Unit {0}
+  LinesAt at (l ∷ ls) = (l .address ≡ at) × (l .bytes ≡ bytesFrom m at (length (l .bytes))) × LinesAt (at + length (l .bytes)) ls
+
+  -- the line of what stands at an address, and lines after it
+  line-at : (at : ℕ) (d : Decoded) (ls : List Line) → LinesAt (at + size d) ls → LinesAt at (lineOf m at d ∷ ls)
+  line-at at d ls h =
+      let count = bytes-length m at (size d) in
+      (refl, ap (bytesFrom m at) (sym count), subst (λ (n : ℕ). LinesAt (at + n) ls) (sym count) h)
+
+  unknown-at : (at n : ℕ) → LinesAt at (unknown m at n)
+  unknown-at at zero = tt
+  unknown-at at (suc n) = let next : suc at ≡ at + 1 = omega arith in line-at at Undefined (unknown m (suc at) n) (subst (λ (a : ℕ). LinesAt a (unknown m (suc at) n)) next (unknown-at (suc at) n))
+
+  placed : (at n covered : ℕ) → LinesAt (at + covered) (lines m at n covered)
+  unfolding lines
+  placed at zero covered = tt
+  placed at (suc n) (suc covered) = let next : suc at + covered ≡ at + suc covered = omega arith in rw (← next) (placed (suc at) n covered)
+  placed at (suc n) zero =
+      let d = decoded (getD m at 0) in
+      let here : at + 0 ≡ at = omega arith in
+      let next : suc at + (size d - 1) ≡ at + size d = omega (arith, size-some d) in
+      rw here
+      (by-test (LinesAt at) (leb (size d) (suc n)) (lineOf m at d ∷ lines m (suc at) n (size d - 1)) (unknown m at (suc n))
+      (line-at at d (lines m (suc at) n (size d - 1)) (subst (λ (a : ℕ). LinesAt a (lines m (suc at) n (size d - 1))) next (placed (suc at) n (size d - 1))))
+      (unknown-at at (suc n)))
+
+  -- Each line stands at the address of its bytes.
+  pub line-addresses : (at n : ℕ) → LinesAt at (lines m at n 0)
+  line-addresses at n = let here : at + 0 ≡ at = omega arith in rw here at (placed at n 0)
 
 abbrev memory : ℕ → List ℕ → List ℕ
 memory at bytes = sets (replicate 65536 0) at bytes

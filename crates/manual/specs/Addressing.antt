@@ -6,38 +6,38 @@ use Rattle.registers.specs.declared.Registers.{Registers}
 use Rattle.instruction.specs.declared.AddressingMode.{AddressingMode}
 use Rattle.instruction.specs.declared.AddressingMode.the-variants.{Accumulator, Implied, Immediate, ZeroPage, ZeroPageX, ZeroPageY, Relative, Absolute, AbsoluteX, AbsoluteY, BuggyIndirect, IndexedIndirectX, IndirectIndexedY}
 use Rattle.manual.specs.declared.Target.{Target}
-use Rattle.manual.specs.Micro.{Micro, done, _>>=_, byte}
-use Rattle.manual.specs.Words.{low, address, page, joined}
+use Rattle.manual.specs.Micro.{Micro, done, _>>=_, fetch}
+use Rattle.manual.specs.Words.{lowByte, addressOf, page, joined}
 use Rattle.manual.specs.Branching.{branchTarget}
 
 -- the place k bytes after the opcode
 abbrev pub operand : Registers → ℕ → ℕ
-operand r k = address (r .counter + k)
+operand r k = addressOf (r .counter + k)
 
 -- two bytes joined to an address, the low one first
 abbrev pub word : ℕ → ℕ → Micro ℕ
 word p q = do
-  l ← byte p
-  h ← byte q
+  l ← fetch p
+  h ← fetch q
   done (joined h l)
 
 -- a pointer's second byte lies in the page of its first: the zero page, or the page that JMP names
 abbrev pub pointer : ℕ → ℕ → Micro ℕ
-pointer high b = word (joined high b) (joined high (low (b + 1)))
+pointer high b = word (joined high b) (joined high (lowByte (b + 1)))
 
 -- an address that is not counted from another is put out at once
 abbrev pub plain : ℕ → Target
 plain p = record { address = p; crossed = false; first = p }
 
--- a page is crossed where the high bytes differ: of base and sum, or of the advanced counter and the branch's target
+-- a page is crossed if the high bytes differ: those of base and sum, or of the advanced counter and the branch's target
 abbrev pub differs : ℕ → ℕ → Bool
 differs base p = not (eqb (page base) (page p))
 
 -- an index is added to the low byte of the base first: until the carry has reached the high byte, the part puts out the base's page
 abbrev pub indexed : ℕ → ℕ → Target
 indexed base index =
-    let p = address (base + index) in
-    record { address = p; crossed = differs base p; first = joined (page base) (low p) }
+    let p = addressOf (base + index) in
+    record { address = p; crossed = differs base p; first = joined (page base) (lowByte p) }
 
 -- modes that have no address put none out: 0000
 abbrev pub silent : ℕ → Bool → Target
@@ -49,16 +49,16 @@ target Accumulator r = done (silent 0 false)
 target Implied r = done (silent 0 false)
 target Immediate r = done (silent (operand r 1) false)
 target ZeroPage r = do
-  b ← byte (operand r 1)
+  b ← fetch (operand r 1)
   done (plain (joined 0 b))
 target ZeroPageX r = do
-  b ← byte (operand r 1)
-  done (plain (joined 0 (low (b + r .x))))
+  b ← fetch (operand r 1)
+  done (plain (joined 0 (lowByte (b + r .x))))
 target ZeroPageY r = do
-  b ← byte (operand r 1)
-  done (plain (joined 0 (low (b + r .y))))
+  b ← fetch (operand r 1)
+  done (plain (joined 0 (lowByte (b + r .y))))
 target Relative r = do
-  offset ← byte (operand r 1)
+  offset ← fetch (operand r 1)
   let goal = branchTarget (operand r 2) offset
   done (silent goal (differs (operand r 2) goal))
 target Absolute r = do
@@ -72,13 +72,13 @@ target AbsoluteY r = do
   done (indexed w (r .y))
 target BuggyIndirect r = do
   w ← word (operand r 1) (operand r 2)
-  goal ← pointer (page w) (low w)
+  goal ← pointer (page w) (lowByte w)
   done (plain goal)
 target IndexedIndirectX r = do
-  b ← byte (operand r 1)
-  w ← pointer 0 (low (b + r .x))
+  b ← fetch (operand r 1)
+  w ← pointer 0 (lowByte (b + r .x))
   done (plain w)
 target IndirectIndexedY r = do
-  b ← byte (operand r 1)
+  b ← fetch (operand r 1)
   w ← pointer 0 b
   done (indexed w (r .y))

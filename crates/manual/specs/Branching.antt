@@ -11,14 +11,14 @@ use Rattle.instruction.specs.declared.BranchOperation.{BranchOperation}
 use Rattle.instruction.specs.declared.BranchOperation.the-variants.{BCC, BCS, BEQ, BMI, BNE, BPL, BVC, BVS}
 use Rattle.manual.specs.declared.Effect.{Effect}
 use Rattle.manual.specs.declared.Target.{Target}
-use Rattle.manual.specs.Words.{low, signed, around}
+use Rattle.manual.specs.Words.{lowByte, signed, around}
 use Rattle.registers.specs.State.{setNZ, setV, setC, setPC, flags}
 use Rattle.manual.specs.Outcomes.{leaves}
 use Rattle.manual.specs.Flags.{shown}
 
--- a register against a byte: C where it is at least the byte, N and Z of the difference
+-- a register against a byte: C if it is at least the byte, N and Z of the difference
 unfoldable pub compared : ℕ → ℕ → Registers → Registers
-compared register m r = shown (low (register + 256 - m)) (flags (setC (leb m register)) r)
+compared register m r = shown (lowByte (register + 256 - m)) (flags (setC (leb m register)) r)
 
 -- BIT: Z of A and M, N and V from bits 7 and 6 of M
 unfoldable pub tested : ℕ → Registers → Registers
@@ -38,7 +38,7 @@ holds BVS p = p .overflow
 unfoldable pub branchTarget : ℕ → ℕ → ℕ
 branchTarget counter offset = around (pos counter +ℤ signed offset)
 
--- taken: one cycle more, and another one where the target lies in another page than the advanced counter
+-- taken: one cycle more, and another one if the target lies in another page than the advanced counter
 unfoldable pub branched : Bool → Target → Registers → Effect
 branched true t r = leaves (setPC (t .address) r) (1 + bit (t .crossed))
 branched false t r = leaves r 0

@@ -16,53 +16,47 @@ use Rattle.instruction.specs.declared.AddressingMode.{AddressingMode}
 use Rattle.instruction.specs.Modes.{operandBytes}
 use Rattle.manual.specs.declared.ArithmeticOutput.{ArithmeticOutput}
 use Rattle.manual.specs.declared.Effect.{Effect}
-use Rattle.manual.specs.Micro.{Micro, done, _>>=_, _>>_, byte, store}
-use Rattle.manual.specs.Words.{address, joined}
+use Rattle.manual.specs.Micro.{Micro, done, _>>=_, _>>_, fetch, store}
+use Rattle.manual.specs.Words.{addressOf, joined}
 use Rattle.manual.specs.Outcomes.{leavesAt, leaves}
 use Rattle.registers.specs.State.{setA, setPC, setV, setC, setStatus, flags}
-use Rattle.manual.specs.Flags.{shown}
 use Rattle.manual.specs.Arithmetic.{binarySum, binaryDifference}
-use Rattle.manual.specs.Decimal.{decimalSum, decimalDifference, decimalShown}
+use Rattle.manual.specs.Decimal.{decimalSum, decimalDifference}
+use Rattle.manual.specs.Flags.{loadA, loadX, loadY}
 use Rattle.manual.specs.Branching.{compared, tested, holds, branched}
 use Rattle.manual.specs.Addressing.{operand, target}
-use Rattle.manual.specs.IndexRegisters.{loadA, loadX, loadY, internal}
+use Rattle.manual.specs.Internal.{internal}
 use Rattle.manual.specs.Stack.{push, pull, pushAddress, pullAddress}
 use Rattle.manual.specs.Interrupts.{irqVector, enter}
 use Rattle.manual.specs.Shifting.{modified, modifiedFlags}
 
--- ADC and SBC, decimal where D is set (chapter 2)
+-- ADC and SBC, decimal if D is set (chapter 2)
 unfoldable pub sum : ℕ → Registers → ArithmeticOutput
 sum m r =
-    cond (r .status .decimal)
-    (decimalSum (r .accumulator) m (r .status .carry))
-    (binarySum (r .accumulator) m (r .status .carry))
+    cond (r .status .decimal) (decimalSum (r .accumulator) m (r .status .carry)) (binarySum (r .accumulator) m (r .status .carry))
 
 unfoldable pub difference : ℕ → Registers → ArithmeticOutput
 difference m r =
-    cond (r .status .decimal)
-    (decimalDifference (r .accumulator) m (r .status .carry))
-    (binaryDifference (r .accumulator) m (r .status .carry))
+    cond (r .status .decimal) (decimalDifference (r .accumulator) m (r .status .carry)) (binaryDifference (r .accumulator) m (r .status .carry))
 
--- what they leave; in decimal mode N and Z follow the Rust
+-- what they leave: N and Z are those of the result, in decimal mode too (the Rust's part of Decimal)
 unfoldable pub withOutput : ArithmeticOutput → Registers → Registers
-withOutput o r =
-    let after = setA (o .result) (flags (λ p. setV (o .overflow) (setC (o .carry) p)) r) in
-    cond (r .status .decimal) (decimalShown (o .result) after) (shown (o .result) after)
+withOutput o r = loadA (o .result) (flags (λ p. setV (o .overflow) (setC (o .carry) p)) r)
 
--- what is done with a byte that was read (chapters 2, 4 and 7)
-unfoldable pub taken : ReadOperation → ℕ → Registers → Registers
-taken ADC m r = withOutput (sum m r) r
-taken SBC m r = withOutput (difference m r) r
-taken AND m r = loadA (bitAnd (r .accumulator) m) r
-taken ORA m r = loadA (bitOr (r .accumulator) m) r
-taken EOR m r = loadA (bitXor (r .accumulator) m) r
-taken LDA m r = loadA m r
-taken LDX m r = loadX m r
-taken LDY m r = loadY m r
-taken CMP m r = compared (r .accumulator) m r
-taken CPX m r = compared (r .x) m r
-taken CPY m r = compared (r .y) m r
-taken BIT m r = tested m r
+-- an operation applied to a byte that was read (chapters 2, 4 and 7)
+unfoldable pub applied : ReadOperation → ℕ → Registers → Registers
+applied ADC m r = withOutput (sum m r) r
+applied SBC m r = withOutput (difference m r) r
+applied AND m r = loadA (bitAnd (r .accumulator) m) r
+applied ORA m r = loadA (bitOr (r .accumulator) m) r
+applied EOR m r = loadA (bitXor (r .accumulator) m) r
+applied LDA m r = loadA m r
+applied LDX m r = loadX m r
+applied LDY m r = loadY m r
+applied CMP m r = compared (r .accumulator) m r
+applied CPX m r = compared (r .x) m r
+applied CPY m r = compared (r .y) m r
+applied BIT m r = tested m r
 
 -- the register that is stored
 abbrev pub stored : StoreOperation → Registers → ℕ
@@ -81,15 +75,15 @@ modify k mode r =
     (done (leaves (setA (modified k (r .accumulator) (r .status .carry)) (modifiedFlags k (r .accumulator) (advanced mode r))) 0))
     (do
       t ← target mode r
-      b ← byte (t .address)
+      b ← fetch (t .address)
       store (t .address) (modified k b (r .status .carry))
       done (leavesAt (t .first) (modifiedFlags k b (advanced mode r)) 0))
 
 unfoldable pub perform : Instruction → AddressingMode → Registers → Micro Effect
 perform (Read k) mode r = do
   t ← target mode r
-  b ← byte (t .address)
-  done (leavesAt (t .first) (taken k b (advanced mode r)) (bit (t .crossed)))
+  b ← fetch (t .address)
+  done (leavesAt (t .first) (applied k b (advanced mode r)) (bit (t .crossed)))
 perform (Store k) mode r = do
   t ← target mode r
   store (t .address) (stored k r)
@@ -103,13 +97,13 @@ perform JMP mode r = do
   t ← target mode r
   done (leavesAt (t .first) (setPC (t .address) r) 0)
 perform JSR mode r = do
-  l ← byte (operand r 1)
+  l ← fetch (operand r 1)
   r₁ ← pushAddress (operand r 2) r
-  h ← byte (operand r 2)
+  h ← fetch (operand r 2)
   done (leavesAt (joined h l) (setPC (joined h l) r₁) 0)
 perform RTS mode r = do
   (back, r₁) ← pullAddress r
-  done (leaves (setPC (address (back + 1)) r₁) 0)
+  done (leaves (setPC (addressOf (back + 1)) r₁) 0)
 perform PHA mode r = do
   r₁ ← push (r .accumulator) r
   done (leaves (advanced mode r₁) 0)

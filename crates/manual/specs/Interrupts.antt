@@ -35,7 +35,7 @@ served vector r = enter (r .counter) (servedByte (r .status)) vector r
 abbrev pub idle : Lines
 idle = record { irq = true; nmi = true }
 
--- NMI falls where its last level was high and the present one is low; a low IRQ calls while I is clear
+-- NMI falls if its last level was high and the present one is low; a low IRQ calls while I is clear
 abbrev pub falls : Lines → Machine → Bool
 falls lines s = s .nmi && not (lines .nmi)
 

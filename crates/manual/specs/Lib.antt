@@ -6,12 +6,11 @@ pub mod Decimal
 pub mod Flags
 pub mod Branching
 pub mod Addressing
-pub mod IndexRegisters
+pub mod Internal
 pub mod Stack
 pub mod Shifting
 pub mod Interrupts
 pub mod Instructions
 pub mod Stepping
 pub mod ReadList
-pub mod Spending
 pub mod Theorems

@@ -55,8 +55,9 @@ write p b k >>= f = write p b (k >>= f)
 abbrev pub _>>_ : {A B : Type 0} → Micro A → Micro B → Micro B
 p >> q = p >>= (λ u. q)
 
-abbrev pub byte : ℕ → Micro ℕ
-byte p = read p done
+-- the byte at an address, and a byte stored at one
+abbrev pub fetch : ℕ → Micro ℕ
+fetch p = read p done
 
 abbrev pub store : ℕ → ℕ → Micro (Unit {0})
 store p b = write p b (done tt)

@@ -1,5 +1,5 @@
 -- What an instruction, a step and a run leave, and the answer number of each reason (docs/RULES.md).
-use Prim.Native.Nat.{ℕ, _+_}
+use Prim.Native.Nat.{ℕ}
 use mathlib.Core.Bool.{Bool, true, false}
 use Rattle.registers.specs.declared.Registers.{Registers}
 use Rattle.manual.specs.declared.Machine.{Machine}
@@ -13,7 +13,7 @@ use Rattle.manual.specs.declared.Reason.the-variants.{Made, MemoryNotFul
 abbrev pub leavesAt : ℕ → Registers → ℕ → Effect
 leavesAt first r extra = record { registers = r; extra = extra; first = first }
 
--- where the mode has no address: 0000
+-- if the mode has no address: 0000
 abbrev pub leaves : Registers → ℕ → Effect
 leaves r extra = leavesAt 0 r extra
 

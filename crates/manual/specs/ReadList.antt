@@ -1,9 +1,10 @@
--- The bytes a step reads, as docs/RULES.md states them, apart from what the definition reads (it gives only the address that a mode leads to,
--- and the state between two steps): the opcode; operand bytes by mode; two pointer bytes
--- for (zp,X), (zp),Y and JMP indirect; the target of a read and of a memory modification; pulled bytes; FFFE and FFFF for BRK. A store's
--- target is not read. A step that serves a line reads the two bytes of its vector and nothing else. That the definition reads exactly these is a theorem (Theorems/Reads).
+-- The bytes that a step reads, as docs/RULES.md lists them: the opcode; operand bytes by mode; two pointer bytes for (zp,X), (zp),Y and JMP
+-- indirect; the target of an instruction that reads or modifies a byte of the memory; pulled bytes; FFFE and FFFF for BRK. A store's target is not read.
+-- A step that serves a line reads the two bytes of its vector and nothing else.
+-- The list takes no more from the definition than the address that a mode leads to, and the state between two steps. That the definition
+-- reads exactly these bytes, in this order, is a theorem (Theorems/Reads).
 use Prim.Native.Nat.{ℕ, zero, suc, _+_}
-use mathlib.Core.Bool.{Bool, cond}
+use mathlib.Core.Bool.{Bool, true, false, cond}
 use mathlib.Core.List.{List, [], _∷_, _++_}
 use lib.Dec.{eqb, leb, ltb}
 use lib.ListN.{getD, take}
@@ -21,30 +22,27 @@ use Rattle.manual.specs.declared.Machine.{Machine}
 use Rattle.manual.specs.declared.Due.{Due}
 use Rattle.manual.specs.declared.Due.the-variants.{Through, Quiet}
 use Rattle.manual.specs.Micro.{exec}
-use Rattle.manual.specs.Words.{low, page, joined}
+use Rattle.manual.specs.Words.{lowByte, page, joined}
 use Rattle.manual.specs.Addressing.{operand, target}
 use Rattle.manual.specs.Outcomes.{isMade}
 use Rattle.manual.specs.Interrupts.{due}
 use Rattle.manual.specs.Stepping.{fullMemory, highestCount, highestBound, stepFull}
 
--- the modes told apart by number
-abbrev pub modeNumber : AddressingMode → ℕ
-modeNumber Accumulator = 0
-modeNumber Implied = 1
-modeNumber Immediate = 2
-modeNumber ZeroPage = 3
-modeNumber ZeroPageX = 4
-modeNumber ZeroPageY = 5
-modeNumber Relative = 6
-modeNumber Absolute = 7
-modeNumber AbsoluteX = 8
-modeNumber AbsoluteY = 9
-modeNumber BuggyIndirect = 10
-modeNumber IndexedIndirectX = 11
-modeNumber IndirectIndexedY = 12
-
-abbrev pub is : AddressingMode → AddressingMode → Bool
-is a b = eqb (modeNumber a) (modeNumber b)
+-- the modes that have an address: all but the accumulator, implied, immediate and relative ones
+abbrev pub addressed : AddressingMode → Bool
+addressed Accumulator = false
+addressed Implied = false
+addressed Immediate = false
+addressed ZeroPage = true
+addressed ZeroPageX = true
+addressed ZeroPageY = true
+addressed Relative = false
+addressed Absolute = true
+addressed AbsoluteX = true
+addressed AbsoluteY = true
+addressed BuggyIndirect = true
+addressed IndexedIndirectX = true
+addressed IndirectIndexedY = true
 
 -- operand bytes, as many as the mode has
 abbrev pub operands : AddressingMode → Registers → List ℕ
@@ -58,7 +56,7 @@ secondOperand r m = getD m (operand r 2) 0
 
 -- the two bytes of a pointer, in one page
 abbrev pub pointerAt : ℕ → ℕ → List ℕ
-pointerAt high b = joined high b ∷ joined high (low (b + 1)) ∷ []
+pointerAt high b = joined high b ∷ joined high (lowByte (b + 1)) ∷ []
 
 -- pointer bytes, for (zp,X), (zp),Y and JMP indirect
 abbrev pub pointers : AddressingMode → Registers → List ℕ → List ℕ
@@ -72,23 +70,23 @@ pointers Relative r m = []
 pointers Absolute r m = []
 pointers AbsoluteX r m = []
 pointers AbsoluteY r m = []
-pointers BuggyIndirect r m = pointerAt (page (joined (secondOperand r m) (firstOperand r m))) (low (joined (secondOperand r m) (firstOperand r m)))
-pointers IndexedIndirectX r m = pointerAt 0 (low (firstOperand r m + r .x))
+pointers BuggyIndirect r m = let w = joined (secondOperand r m) (firstOperand r m) in pointerAt (page w) (lowByte w)
+pointers IndexedIndirectX r m = pointerAt 0 (lowByte (firstOperand r m + r .x))
 pointers IndirectIndexedY r m = pointerAt 0 (firstOperand r m)
 
--- the address that the mode leads to; an immediate operand is its own target, and is listed already
+-- the address that a mode leads to, if it has one; an immediate operand is listed already
 abbrev pub reached : AddressingMode → Registers → List ℕ → List ℕ
-reached mode r m = cond (is mode Immediate) [] (exec (target mode r) m .0 .address ∷ [])
+reached mode r m = cond (addressed mode) (exec (target mode r) m .0 .address ∷ []) []
 
 -- the kth byte above the stack pointer
 abbrev pub pulled : Registers → ℕ → ℕ
-pulled r k = joined 1 (low (r .stack .0 + k))
+pulled r k = joined 1 (lowByte (r .stack .0 + k))
 
 -- after the opcode
 abbrev pub listed : Instruction → AddressingMode → Registers → List ℕ → List ℕ
 listed (Read k) mode r m = operands mode r ++ pointers mode r m ++ reached mode r m
 listed (Store k) mode r m = operands mode r ++ pointers mode r m
-listed (Modify k) mode r m = cond (eqb (operandBytes mode) 0) [] (operands mode r ++ pointers mode r m ++ reached mode r m)
+listed (Modify k) mode r m = operands mode r ++ pointers mode r m ++ reached mode r m
 listed (Branch k) mode r m = operands mode r ++ pointers mode r m
 listed (Internal k) mode r m = []
 listed JMP mode r m = operands mode r ++ pointers mode r m
@@ -117,16 +115,30 @@ listedStepFull lines s m = cond (ltb highestCount (s .cycles)) [] (listedDue (du
 abbrev pub listedStep : ℕ → Lines → Machine → List ℕ → List ℕ
 listedStep size lines s m = cond (eqb size fullMemory) (listedStepFull lines s m) []
 
--- a run reads what its steps read, a refused last one included; one answered 1 or 4 reads nothing
-abbrev pub listedRunFull : ℕ → Lines → Machine → List ℕ → List ℕ
-listedRunFull zero lines s m = []
-listedRunFull (suc n) lines s m =
+-- a run reads what its steps read, a refused last one included
+abbrev pub listedRunWhile : (Machine → Bool) → ℕ → Lines → Machine → List ℕ → List ℕ
+listedRunWhile goes zero lines s m = []
+listedRunWhile goes (suc n) lines s m =
     let w = exec (stepFull lines s) m in
-    listedStepFull lines s m ++ cond (isMade (w .0 .reason)) (listedRunFull n lines (w .0 .machine) (w .1)) []
+    cond (goes s) (listedStepFull lines s m ++ cond (isMade (w .0 .reason)) (listedRunWhile goes n lines (w .0 .machine) (w .1)) []) []
 
+abbrev pub listedRunFull : ℕ → Lines → Machine → List ℕ → List ℕ
+listedRunFull n lines s m = listedRunWhile (λ s. true) n lines s m
+
+-- one answered 1 or 4 reads nothing
+abbrev pub listedOnFull : ℕ → List ℕ → List ℕ
+listedOnFull size l = cond (eqb size fullMemory) l []
+
+abbrev pub listedBounded : ℕ → List ℕ → List ℕ
+listedBounded bound l = cond (leb bound highestBound) l []
+
+-- a run, one of any number of steps, and one by cycles
 abbrev pub listedRun : ℕ → ℕ → Lines → Machine → List ℕ → List ℕ
-listedRun size bound lines s m = cond (eqb size fullMemory) (cond (leb bound highestBound) (listedRunFull bound lines s m) []) []
+listedRun size bound lines s m = listedOnFull size (listedBounded bound (listedRunFull bound lines s m))
 
--- a run of any number of steps, likewise
 abbrev pub listedLongRun : ℕ → ℕ → Lines → Machine → List ℕ → List ℕ
-listedLongRun size bound lines s m = cond (eqb size fullMemory) (listedRunFull bound lines s m) []
+listedLongRun size bound lines s m = listedOnFull size (listedRunFull bound lines s m)
+
+abbrev pub listedRunCycles : ℕ → ℕ → Lines → Machine → List ℕ → List ℕ
+listedRunCycles size limit lines s m =
+    listedOnFull size (listedBounded limit (listedRunWhile (λ t. ltb (t .cycles) (s .cycles + limit)) limit lines s m))

@@ -5,17 +5,17 @@ use Rattle.registers.specs.declared.Registers.{Registers}
 use Rattle.registers.specs.StatusByte.{bit, bitAt}
 use Rattle.instruction.specs.declared.ModifyOperation.{ModifyOperation}
 use Rattle.instruction.specs.declared.ModifyOperation.the-variants.{ASL, DEC, INC, LSR, ROL, ROR}
-use Rattle.manual.specs.Words.{low}
+use Rattle.manual.specs.Words.{lowByte}
 use Rattle.registers.specs.State.{setC, flags, up, down}
 use Rattle.manual.specs.Flags.{shown}
 
 -- a rotate takes the old carry in where a shift takes 0
 abbrev pub modified : ModifyOperation → ℕ → Bool → ℕ
-modified ASL b c = low (b * 2)
+modified ASL b c = lowByte (b * 2)
 modified DEC b c = down b
 modified INC b c = up b
 modified LSR b c = b / 2
-modified ROL b c = low (b * 2 + bit c)
+modified ROL b c = lowByte (b * 2 + bit c)
 modified ROR b c = b / 2 + bit c * 128
 
 -- the bit shifted out

@@ -1,8 +1,8 @@
 -- The stack (manual, chapter 8), page 01: a push stores and then lowers S, a pull raises S and then reads, both modulo 256.
 use Prim.Native.Nat.{ℕ}
 use Rattle.registers.specs.declared.Registers.{Registers}
-use Rattle.manual.specs.Micro.{Micro, done, _>>=_, _>>_, byte, store}
-use Rattle.manual.specs.Words.{low, page, joined}
+use Rattle.manual.specs.Micro.{Micro, done, _>>=_, _>>_, fetch, store}
+use Rattle.manual.specs.Words.{lowByte, page, joined}
 use Rattle.registers.specs.State.{setS, up, down}
 
 unfoldable pub push : ℕ → Registers → Micro Registers
@@ -12,14 +12,14 @@ push b r = do
 
 unfoldable pub pull : Registers → Micro (ℕ × Registers)
 pull r = do
-  b ← byte (joined 1 (up (r .stack .0)))
+  b ← fetch (joined 1 (up (r .stack .0)))
   done (b, setS (up (r .stack .0)) r)
 
 -- an address goes on high byte first, and comes off low byte first
 unfoldable pub pushAddress : ℕ → Registers → Micro Registers
 pushAddress p r = do
   r₁ ← push (page p) r
-  push (low p) r₁
+  push (lowByte p) r₁
 
 unfoldable pub pullAddress : Registers → Micro (ℕ × Registers)
 pullAddress r = do

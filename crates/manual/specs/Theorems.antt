@@ -22,5 +22,5 @@ pub mod Laying
 pub mod InstructionLaws
 pub mod Extra
 pub mod FirstAddress
-pub mod Interrupts
+pub mod Serving
 pub mod Call

@@ -5,12 +5,12 @@ use lib.Dec.{ltb}
 use lib.IntN.{ℤ, pos, negsuc, negℤ, _-ℤ_}
 use lib.Signed.{ltZ}
 
--- a number modulo 256, and one modulo 65,536
-abbrev pub low : ℕ → ℕ
-low n = n % 256
+-- the low byte of a number: modulo 256; and the address that it names: modulo 65,536
+abbrev pub lowByte : ℕ → ℕ
+lowByte n = n % 256
 
-abbrev pub address : ℕ → ℕ
-address n = n % 65536
+abbrev pub addressOf : ℕ → ℕ
+addressOf n = n % 65536
 
 -- the high byte of an address
 abbrev pub page : ℕ → ℕ

@@ -3,7 +3,7 @@ ghost use mathlib.Core.Path.{_≡_};
 ghost use Prim.Native.Nat.{_+_};
 ghost use mathlib.Core.List.{[], _∷_};
 ghost use lib.ListN.{length, getD, set};
-ghost use Rattle.manual.specs.Words.{low, address, page, joined};
+ghost use Rattle.manual.specs.Words.{lowByte, addressOf, page, joined};
 ghost use Rattle.manual.specs.Stepping.{fullMemory};
 
 // An address in the zero page is one byte, and reaches memory only through its page.
@@ -29,7 +29,7 @@ impl ZeroPage {
 
     // The sum stays in the zero page.
     pub fn plus(self, index: u8) -> ZeroPage
-        ensures { λ r. ⌜ r .0 ≡ low (self .0 + index) ⌝ }
+        ensures { λ r. ⌜ r .0 ≡ lowByte (self .0 + index) ⌝ }
     {
         ZeroPage(std::num::wrapping_add_u8(self.0, index))
     }
@@ -38,7 +38,7 @@ impl ZeroPage {
 impl Address {
     // So many bytes on, from FFFF to 0000.
     pub fn plus(self, count: u16) -> Address
-        ensures { λ r. ⌜ r .0 ≡ address (self .0 + count) ⌝ }
+        ensures { λ r. ⌜ r .0 ≡ addressOf (self .0 + count) ⌝ }
     {
         Address(std::num::wrapping_add_u16(self.0, count))
     }
@@ -52,7 +52,7 @@ impl Address {
 
     // The byte in the page.
     pub fn low(self) -> u8
-        ensures { λ r. ⌜ r ≡ low (self .0) ⌝ }
+        ensures { λ r. ⌜ r ≡ lowByte (self .0) ⌝ }
     {
         (self.0 % 256) as u8
     }

@@ -16,8 +16,7 @@ use Rattle.manual.specs.declared.Reason.the-variants.{Made, MemoryNotFull, NoCy
 use Rattle.manual.specs.Micro.{Micro, done, exec, _>>=_, Gives}
 use Rattle.manual.specs.Outcomes.{number, isMade, stepped, ended}
 use Rattle.manual.specs.Interrupts.{due}
-use Rattle.manual.specs.Spending.{spendFull, runCycles}
-use Rattle.manual.specs.Stepping.{fullMemory, highestBound, step, runFull, run, longRun}
+use Rattle.manual.specs.Stepping.{fullMemory, highestBound, step, runFull, run, longRun, spendFull, runCycles}
 use Rattle.manual.specs.Theorems.Programs.{then, exec-bind}
 use Rattle.manual.specs.Theorems.StepLaws.{step-short, step-whole, run-short, run-long, run-whole, long-short, long-whole}
 use Rattle.manual.specs.Theorems.RunAnswers.{Ends, all-made, no-cycle-room, not-an-opcode, run-ends}

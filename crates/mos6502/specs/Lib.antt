@@ -1,3 +1,7 @@
 pub mod Numbers
 pub mod Laws
 pub mod Rounds
+pub mod Calls
+pub mod Behind
+pub mod Correct
+pub mod Proved

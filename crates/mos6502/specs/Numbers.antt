@@ -5,8 +5,7 @@ use Rattle.manual.specs.declared.Stepped.{Stepped}
 use Rattle.manual.specs.declared.Ended.{Ended}
 use Rattle.manual.specs.Micro.{Micro, done, _>>=_}
 use Rattle.manual.specs.Outcomes.{number, isMade}
-use Rattle.manual.specs.Stepping.{step, runFull, run, longRun}
-use Rattle.manual.specs.Spending.{runCycles}
+use Rattle.manual.specs.Stepping.{step, runFull, run, longRun, runCycles}
 use Rattle.numbers.specs.Machines.{machineFrom, linesFrom, registersAfter, cyclesAfter}
 use Rattle.cpu.specs.declared.Travelled.{Travelled}
 use Rattle.cpu.specs.Turning.{turning}

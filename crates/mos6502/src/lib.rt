@@ -9,7 +9,8 @@ ghost use Rattle.manual.specs.Stepping.{fullMemory};
 ghost use Rattle.manual.specs.Micro.{exec, Gives};
 ghost use Rattle.cpu.specs.Turning.{Calm, turning, settled};
 ghost use Rattle.numbers.specs.Machines.{machineFrom, linesFrom};
-ghost use Rattle.mos6502.specs.Numbers.{stepOnNumbers, runOnNumbers, longRunOnNumbers, runCyclesOnNumbers, runFullOnNumbers, turnOnNumbers};
+ghost use Rattle.mos6502.specs.Numbers.{runFullOnNumbers, turnOnNumbers};
+ghost use Rattle.mos6502.specs.Calls.{StepCall, RunCall, LongRunCall, CyclesCall};
 use cpu::reach;
 use cpu::turn;
 use cycles::lift;
@@ -186,9 +187,7 @@ pub extern "C" fn mos6502_step(
     memory: &mut [u8],
 ) -> u8
     ensures { λ r.
-        ⌜ Gives
-        (stepOnNumbers (length (now (memory .entry))) lines (now (registers .entry)) (now (cycles .entry)))
-        (now (memory .entry))
+        ⌜ StepCall (now (registers .entry)) (now (cycles .entry)) lines (now (memory .entry))
         (record { answer = r; first = now (first .exit); registers = now (registers .exit); cycles = now (cycles .exit) })
         (now (memory .exit)) ⌝ }
 {
@@ -211,9 +210,7 @@ pub extern "C" fn mos6502_run(
     memory: &mut [u8],
 ) -> u8
     ensures { λ r.
-        ⌜ Gives
-        (runOnNumbers (length (now (memory .entry))) bound lines (now (registers .entry)) (now (cycles .entry)))
-        (now (memory .entry))
+        ⌜ RunCall (now (registers .entry)) (now (cycles .entry)) bound lines (now (memory .entry))
         (record { answer = r; steps = now (steps .exit); registers = now (registers .exit); cycles = now (cycles .exit) })
         (now (memory .exit)) ⌝ }
 {
@@ -239,9 +236,7 @@ pub extern "C" fn mos6502_long_run(
     memory: &mut [u8],
 ) -> u8
     ensures { λ r.
-        ⌜ Gives
-        (longRunOnNumbers (length (now (memory .entry))) bound lines (now (registers .entry)) (now (cycles .entry)))
-        (now (memory .entry))
+        ⌜ LongRunCall (now (registers .entry)) (now (cycles .entry)) bound lines (now (memory .entry))
         (record { answer = r; steps = now (steps .exit); registers = now (registers .exit); cycles = now (cycles .exit) })
         (now (memory .exit)) ⌝ }
 {
@@ -264,9 +259,7 @@ pub extern "C" fn mos6502_run_cycles(
     memory: &mut [u8],
 ) -> u8
     ensures { λ r.
-        ⌜ Gives
-        (runCyclesOnNumbers (length (now (memory .entry))) limit lines (now (registers .entry)) (now (cycles .entry)))
-        (now (memory .entry))
+        ⌜ CyclesCall (now (registers .entry)) (now (cycles .entry)) limit lines (now (memory .entry))
         (record { answer = r; steps = now (steps .exit); registers = now (registers .exit); cycles = now (cycles .exit) })
         (now (memory .exit)) ⌝ }
 {

@@ -4,20 +4,20 @@ use mathlib.Core.List.{List, [], _++_}
 use lib.ListN.{getD}
 use Rattle.instruction.specs.declared.AddressingMode.{AddressingMode}
 use Rattle.instruction.specs.declared.AddressingMode.the-variants.{Accumulator, Implied, Immediate, ZeroPage, ZeroPageX, ZeroPageY, Relative, Absolute, AbsoluteX, AbsoluteY, BuggyIndirect, IndexedIndirectX, IndirectIndexedY}
-use Rattle.manual.specs.Words.{address, joined}
+use Rattle.manual.specs.Words.{addressOf, joined}
 use Rattle.manual.specs.Branching.{branchTarget}
 use Rattle.laws.specs.Characters.{characters}
 use Rattle.text.specs.Numerals.{hex2, hex4}
 
 -- the byte after the opcode, the word there, and where a branch leads with it
 abbrev pub byteAfter : List ℕ → ℕ → ℕ
-byteAfter m at = getD m (address (at + 1)) 0
+byteAfter m at = getD m (addressOf (at + 1)) 0
 
 abbrev pub wordAfter : List ℕ → ℕ → ℕ
-wordAfter m at = joined (getD m (address (at + 2)) 0) (byteAfter m at)
+wordAfter m at = joined (getD m (addressOf (at + 2)) 0) (byteAfter m at)
 
 abbrev pub leadsTo : List ℕ → ℕ → ℕ
-leadsTo m at = branchTarget (address (at + 2)) (byteAfter m at)
+leadsTo m at = branchTarget (addressOf (at + 2)) (byteAfter m at)
 
 -- the operand of a mode, by how these three are written
 unfoldable pub written : AddressingMode → List ℕ → List ℕ → List ℕ → List ℕ

@@ -10,7 +10,7 @@ use lib.Seq.{take-suc, take-all}
 use Rattle.laws.specs.Characters.{characters}
 use Rattle.instruction.specs.declared.AddressingMode.{AddressingMode}
 use Rattle.instruction.specs.declared.AddressingMode.the-variants.{Accumulator, Implied, Immediate, ZeroPage, ZeroPageX, ZeroPageY, Relative, Absolute, AbsoluteX, AbsoluteY, BuggyIndirect, IndexedIndirectX, IndirectIndexedY}
-use Rattle.manual.specs.Words.{address, joined}
+use Rattle.manual.specs.Words.{addressOf, joined}
 use Rattle.manual.specs.Branching.{branchTarget}
 use Rattle.text.specs.Numerals.{hex2, hex4}
 use Rattle.notation.specs.Operands.{byteAfter, wordAfter, leadsTo, written, operand}
@@ -49,9 +49,9 @@ module _ (byte word target : ℕ) where
 
 -- The pattern of a mode with its numbers, as the code finds them, is the operand.
 pub operand-filled : (mode : AddressingMode) (m : List ℕ) (at : ℕ) {p b q high w t : ℕ} {pattern : List ℕ}
-    → p ≡ address (at + 1)
+    → p ≡ addressOf (at + 1)
     → b ≡ getD m p 0
-    → q ≡ address (at + 2)
+    → q ≡ addressOf (at + 2)
     → high ≡ getD m q 0
     → w ≡ joined high b
     → t ≡ branchTarget q b

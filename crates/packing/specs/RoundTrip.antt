@@ -7,6 +7,7 @@ use lib.Dec.{eqb}
 use Rattle.registers.specs.declared.Registers.{Registers}
 use Rattle.registers.specs.declared.Status.{Status}
 use Rattle.registers.specs.State.{registersOf}
+use Rattle.registers.specs.InRange.{InRange}
 use Rattle.registers.specs.StatusByte.{bit, bitAt, pushedByte, pulledStatus}
 use Rattle.registers.specs.RoundTrip.{pulled-pushed, bit-most, pushed-byte}
 use Rattle.packing.specs.Packed.{packed, unpacked, unpackedNmi}
@@ -36,19 +37,11 @@ module _ (a x y s p c b : ℕ) (a8 : a < 256) (x8 : x < 256) (y8 : y < 256) (s8 
   part-b : n / 2 ^ 56 % 2 ≡ b
   part-b = omega arith
 
--- what a value of the code has: bytes, and a counter of 16 bits
-pub record Fits (r : Registers) : Type 0 where
-  pub a : r .accumulator < 256
-  pub x : r .x < 256
-  pub y : r .y < 256
-  pub s : r .stack .0 < 256
-  pub counter : r .counter < 65536
-
 set-bit : (nmi : Bool) → not (eqb (bit (not nmi)) 1) ≡ nmi
 set-bit true = refl
 set-bit false = refl
 
-module _ (r : Registers) (nmi : Bool) (fits : Fits r) where
+module _ (r : Registers) (nmi : Bool) (h : InRange r) where
   abbrev p8 : pushedByte (r .status) < 256
   p8 = pushed-byte true (r .status)
 
@@ -59,16 +52,16 @@ module _ (r : Registers) (nmi : Bool) (fits : Fits r) where
   unfolding unpacked packed
   unpacked-packed =
       rw (
-        part-a _ _ _ _ _ _ _ (fits .a) (fits .x) (fits .y) (fits .s) p8 (fits .counter) b1,
-        part-x _ _ _ _ _ _ _ (fits .a) (fits .x) (fits .y) (fits .s) p8 (fits .counter) b1,
-        part-y _ _ _ _ _ _ _ (fits .a) (fits .x) (fits .y) (fits .s) p8 (fits .counter) b1,
-        part-s _ _ _ _ _ _ _ (fits .a) (fits .x) (fits .y) (fits .s) p8 (fits .counter) b1,
-        part-p _ _ _ _ _ _ _ (fits .a) (fits .x) (fits .y) (fits .s) p8 (fits .counter) b1,
-        part-c _ _ _ _ _ _ _ (fits .a) (fits .x) (fits .y) (fits .s) p8 (fits .counter) b1,
+        part-a _ _ _ _ _ _ _ (h .accumulator) (h .x) (h .y) (h .stack) p8 (h .counter) b1,
+        part-x _ _ _ _ _ _ _ (h .accumulator) (h .x) (h .y) (h .stack) p8 (h .counter) b1,
+        part-y _ _ _ _ _ _ _ (h .accumulator) (h .x) (h .y) (h .stack) p8 (h .counter) b1,
+        part-s _ _ _ _ _ _ _ (h .accumulator) (h .x) (h .y) (h .stack) p8 (h .counter) b1,
+        part-p _ _ _ _ _ _ _ (h .accumulator) (h .x) (h .y) (h .stack) p8 (h .counter) b1,
+        part-c _ _ _ _ _ _ _ (h .accumulator) (h .x) (h .y) (h .stack) p8 (h .counter) b1,
       )
       (ap (λ (p : Status). registersOf (r .accumulator) (r .x) (r .y) (r .stack .0) (r .counter) p) (pulled-pushed true (r .status)))
 
   pub level-packed : unpackedNmi (packed r nmi) ≡ nmi
   unfolding unpackedNmi packed
   level-packed =
-      ap (λ (b : ℕ). not (eqb b 1)) (part-b _ _ _ _ _ _ _ (fits .a) (fits .x) (fits .y) (fits .s) p8 (fits .counter) b1) ∙ set-bit nmi
+      ap (λ (b : ℕ). not (eqb b 1)) (part-b _ _ _ _ _ _ _ (h .accumulator) (h .x) (h .y) (h .stack) p8 (h .counter) b1) ∙ set-bit nmi

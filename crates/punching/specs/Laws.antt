@@ -1,10 +1,11 @@
 -- Laws of a punched tape, for the proofs of the code: `end` is the address after the stretch.
-use Prim.Native.Nat.{ℕ, zero, suc, _+_, _-_, _*_, _%_, _≤_, _<_, min}
+use Prim.Native.Nat.{ℕ, zero, suc, _+_, _-_, _*_, _/_, _%_, _≤_, _<_, min}
 use mathlib.Core.Path.{_≡_, refl, ap, _∙_}
 use mathlib.Core.Bool.{Bool, true, false}
 use mathlib.Core.List.{List, [], _∷_, _++_}
 use native.Mathlib.Nat.{add-zero, zero-add, suc-add}
 use native.Mathlib.Numerals.{add-one}
+use native.Mathlib.Decide.{decLt}
 use native.Mathlib.Omega.{arith}
 use lib.Dec.{ltb}
 use lib.ListN.{length, getD, take, drop, length-append, length-take, drop-of-length-le}
@@ -91,15 +92,24 @@ module _ (m : List ℕ) (at end : ℕ) (h : at < end) (f : end ≤ length m) whe
 pub tape-none : (m : List ℕ) (k at end : ℕ) → at ≡ end → tapeText k (cut at 0 (slice at end m)) ≡ recordText k [] ++ newline
 tape-none m k at end e = rw (slice-none m at end e)
 
--- at most 61 characters a byte, so that the end is no largest `usize`
-pub tape-length : (k at covered : ℕ) (bs : List ℕ) → length (tapeText k (cut at covered bs)) ≤ 61 * length bs + 13
-tape-length k at covered [] = omega (arith, text-size k [], length-append (recordText k []) newline)
-tape-length k at (suc covered) (b ∷ bs) = let rest = tape-length k (suc at) covered bs in omega arith
-tape-length k at zero (b ∷ bs) =
-    let r : List ℕ = take 24 (b ∷ bs) in
+-- how many records there are of some bytes: one, and those of the bytes after its 24
+one-record : (n : ℕ) → (suc n - 0 + 23) / 24 ≡ 1 + (n - 23 + 23) / 24
+one-record n = go (decLt n 23)
+  where
+    go : Dec (n < 23) → (suc n - 0 + 23) / 24 ≡ 1 + (n - 23 + 23) / 24
+    go (yes few) = omega arith
+    go (no many) = omega arith
+
+-- two characters for each byte, 13 for each record, and 13 for the end record
+pub tape-size : (k at covered : ℕ) (bs : List ℕ)
+    → length (tapeText k (cut at covered bs)) ≡ 2 * (length bs - covered) + 13 * ((length bs - covered + 23) / 24) + 13
+tape-size k at covered [] = omega (arith, text-size k [], length-append (recordText k []) newline)
+tape-size k at (suc covered) (b ∷ bs) = let rest = tape-size k (suc at) covered bs in omega arith
+tape-size k at zero (b ∷ bs) =
     omega (
       arith,
-      tape-length (k + 1) (suc at) 23 bs,
+      tape-size (k + 1) (suc at) 23 bs,
+      one-record (length bs),
       text-size at (take 24 (b ∷ bs)),
       length-take 24 (b ∷ bs),
       length-append (recordText at (take 24 (b ∷ bs)) ++ newline) (tapeText (k + 1) (cut (suc at) 23 bs)),

@@ -14,7 +14,7 @@ use Rattle.text.specs.Written.{Wrote}
 use Rattle.text.specs.Delivered.{Delivered, refused, delivered, written, all-there}
 use Rattle.tapes.specs.Grammar.{tapeText}
 use Rattle.punching.specs.Punching.{cut, stretchOf, tapeFrom, tapeInto}
-use Rattle.punching.specs.Laws.{tape-length}
+use Rattle.punching.specs.Laws.{tape-size}
 
 module _ (m : List ℕ) (first last : ℕ) where
   -- the text as the code writes it, up to the address after the last
@@ -23,9 +23,10 @@ module _ (m : List ℕ) (first last : ℕ) where
   unfolding tapeFrom
   to-the-last w = rw (add-one last) at w
 
-  pub text-length : length m ≡ fullMemory → last < 65536 → length (tapeFrom m first last) < 4194304
+  -- a tape of the whole memory has 166,588 characters, and no tape has more
+  pub text-length : length m ≡ fullMemory → last < 65536 → length (tapeFrom m first last) ≤ 166588
   unfolding tapeFrom
-  text-length f h = omega (arith, tape-length 0 first 0 (stretchOf m first last), length-slice first (suc last) m (omega arith))
+  text-length f h = omega (arith, tape-size 0 first 0 (stretchOf m first last), length-slice first (suc last) m (omega arith))
 
 module _ (m : List ℕ) (first last : ℕ) (buffer : List ℕ) where
   pub not-full : (length m ≡ fullMemory → ⊥) → refused 1 buffer ≡ tapeInto m first last buffer

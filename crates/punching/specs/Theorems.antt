@@ -4,6 +4,7 @@ use mathlib.Core.Path.{_≡_, refl, ap, sym, _∙_}
 use mathlib.Core.List.{List, [], _∷_, _++_}
 use native.Mathlib.Nat.{add-zero}
 use native.Mathlib.Omega.{arith}
+use borrow.Author.Tests.{eq-eqb, le-ltb}
 use lib.ListN.{length, getD, take, drop, set, length-take, replicate}
 use lib.Seq.{sets, sets-eq, length-slice, getD-drop, getD-take, ext-getD}
 use Rattle.manual.specs.Stepping.{fullMemory}
@@ -18,7 +19,8 @@ use Rattle.tapes.specs.Tapes.{readTape}
 use Rattle.tapes.specs.Grammar.{tapeText}
 use Rattle.tapes.specs.Theorems.{written-read}
 use Rattle.punching.specs.Punching.{cut, stretchOf, tapeFrom, tapeInto}
-use Rattle.punching.specs.Outcomes.{answered}
+use Rattle.punching.specs.Laws.{tape-size}
+use Rattle.punching.specs.Outcomes.{text-length, answered}
 
 -- the records of a stretch laid onto a memory are the stretch
 sets-split : (j : ℕ) (m : List ℕ) (at : ℕ) (l : List ℕ) → sets (sets m at (take j l)) (at + j) (drop j l) ≡ sets m at l
@@ -106,6 +108,21 @@ pub punched-read : (m : List ℕ) (first last : ℕ) (buffer : List ℕ) → tap
 punched-read m first last buffer z small last< m′ full′ =
     let good = answered m first last buffer z in
     rw (good .2) (tape-read m first last (good .0) (good .1) last< small m′ full′)
+
+-- A buffer of 166,588 characters is always enough, and a tape of the whole memory fills it.
+pub punch-room : (m : List ℕ) (first last : ℕ) (buffer : List ℕ) → length m ≡ fullMemory → first ≤ last → last < 65536
+    → 166588 ≤ length buffer
+    → tapeInto m first last buffer .answer ≡ 0
+unfolding tapeInto
+punch-room m first last buffer full ordered last< room =
+    let fits : length (tapeFrom m first last) ≤ length buffer = omega (arith, text-length m first last full last<) in
+    rw (eq-eqb (length m) fullMemory full, le-ltb last first ordered, le-ltb (length buffer) (length (tapeFrom m first last)) fits)
+
+pub longest-tape : (m : List ℕ) → length m ≡ fullMemory → length (tapeFrom m 0 65535) ≡ 166588
+unfolding tapeFrom
+longest-tape m full =
+    let whole : length (stretchOf m 0 65535) ≡ 65536 = length-slice 0 (suc 65535) m (omega arith) in
+    tape-size 0 0 0 (stretchOf m 0 65535) ∙ rw whole
 
 -- Memories that agree on the stretch are punched alike, whatever stands in other pages.
 pub punched-sealed : (m k : List ℕ) (first last : ℕ) → last < 65536 → length m ≡ fullMemory → length k ≡ fullMemory

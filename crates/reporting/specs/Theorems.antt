@@ -19,10 +19,10 @@ use Rattle.manual.specs.Words.{joined}
 use Rattle.manual.specs.Flags.{shown}
 use Rattle.manual.specs.Addressing.{target}
 use Rattle.manual.specs.Interrupts.{idle}
-use Rattle.manual.specs.Instructions.{taken, perform}
-use Rattle.manual.specs.Stepping.{act, attend, stepFull, runFull, run, longRun, fullMemory}
+use Rattle.manual.specs.Instructions.{applied, perform}
+use Rattle.manual.specs.Stepping.{runWhile, act, attend, stepFull, runFull, run, longRun, fullMemory}
 use Rattle.manual.specs.Theorems.Laying.{memory}
-use Rattle.manual.specs.Theorems.RegistersInRange.{InRange}
+use Rattle.registers.specs.InRange.{InRange}
 use Rattle.manual.specs.Theorems.Within.{Bytes}
 use Rattle.manual.specs.Theorems.Ranges.{run-ranges}
 use Rattle.manual.specs.Theorems.StepLaws.{run-whole, long-whole}
@@ -37,7 +37,7 @@ use Rattle.reporting.specs.Laws.{image-refused, image-run}
 
 -- The rules' example: LDA #05, and then a byte that is no opcode.
 pub example-line : reportLine (memory ((0xFFFD, 0x02 ∷ []) ∷ (0x0200, 0xA9 ∷ 0x05 ∷ 0x02 ∷ []) ∷ [])) ≡ characters "3 1 2 0202 05 00 00 FF 34\n"
-unfolding start fromStart machineFields allFields line digit digits decimal statusByte rows decoded setA setPC setStatus setNZ flags shown target taken perform act attend stepFull runFull run
+unfolding start fromStart machineFields allFields line digit digits decimal statusByte rows decoded setA setPC setStatus setNZ flags shown target applied perform act attend stepFull runFull runWhile run
 example-line = refl
 
 -- An image of another length gets the line `1`.

@@ -22,7 +22,7 @@ abbrev pub written : Outcome → List ℕ
 written x = take (x .size) (x .buffer)
 
 module _ (s buffer : List ℕ) (good : rescued s buffer .answer ≡ 0) where
-  its-text : written (rescued s buffer) ≡ tapeText 0 (saved 0 s .records)
+  pub its-text : written (rescued s buffer) ≡ tapeText 0 (saved 0 s .records)
   its-text = let known = answered s buffer good in ap written (known .2) ∙ at-front (tapeText 0 (saved 0 s .records)) buffer (known .1)
 
   -- What comes out is accepted, as the records that were kept.

@@ -7,4 +7,5 @@ pub mod Losses
 pub mod Passing
 pub mod Outcomes
 pub mod Buffers
+pub mod Kept
 pub mod Examples

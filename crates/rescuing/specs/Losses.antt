@@ -18,9 +18,13 @@ use Rattle.tapes.specs.Lawful.{tape-lawful}
 use Rattle.rescuing.specs.Rescuing.{worth, found, saved}
 use Rattle.rescuing.specs.Laws.{item-worth-stretch, item-worth-finish, worth-item}
 
--- a data record of the grammar begins at an offset, and an end record with any number
+-- d is the text of a data record of the grammar, and t begins with it, whatever stands after it
+abbrev pub Begins : List ℕ → List ℕ → Type 0
+Begins d t = (r : Stretch) × (rest : List ℕ) × Fit r × (d ≡ recordText (r .first) (r .bytes)) × (t ≡ d ++ rest)
+
+-- a data record begins at an offset, and an end record with any number
 abbrev pub KeptAt : List ℕ → ℕ → Type 0
-KeptAt s i = (r : Stretch) × (rest : List ℕ) × Fit r × (drop i s ≡ recordText (r .first) (r .bytes) ++ rest)
+KeptAt s i = (d : List ℕ) × Begins d (drop i s)
 
 abbrev pub EndAt : List ℕ → ℕ → Type 0
 EndAt s i = (k : ℕ) × (rest : List ℕ) × (k < 65536) × (drop i s ≡ recordText k [] ++ rest)
@@ -47,10 +51,21 @@ finished-item : (t : List ℕ) → worth (recordOf 59 t) ≡ finish → (k : ℕ
 unfolding tapeItem
 finished-item t e = worth-finished (recordOf 59 t) e
 
+-- what begins with a data record is worth it, and the other way round
+pub begins-worth : (d t : List ℕ) (h : Begins d t) → worth (recordOf 59 t) ≡ stretch (h .0)
+begins-worth d t (r, rest, fit, spelling, e) =
+    let begins : t ≡ recordText (r .first) (r .bytes) ++ rest = e ∙ ap (λ (d : List ℕ). d ++ rest) spelling in
+    rw begins (item-worth-stretch 0 (recordText (r .first) (r .bytes) ++ rest) r (tape-lawful .data-read 0 r (recordText (r .first) (r .bytes)) rest (fit, refl)))
+
+pub worth-begins : (t : List ℕ) (r : Stretch) → worth (recordOf 59 t) ≡ stretch r → Begins (recordText (r .first) (r .bytes)) t
+worth-begins t r f =
+    let back = tape-lawful .data-back 0 r t (worth-item 0 t r f) in
+    let after = drop (11 + 2 * length (r .bytes)) t in
+    (r, after, back .1 .0, refl, back .2 ∙ ap (λ (u : List ℕ). u ++ after) (back .1 .1))
+
 module _ (s : List ℕ) (i : ℕ) where
   kept-worth : KeptAt s i → isBad (worth (recordOf 59 (drop i s))) ≡ false
-  kept-worth (r, rest, fit, e) =
-      rw (e, item-worth-stretch 0 (recordText (r .first) (r .bytes) ++ rest) r (tape-lawful .data-read 0 r (recordText (r .first) (r .bytes)) rest (fit, refl)))
+  kept-worth (d, h) = rw (begins-worth d (drop i s) h)
 
   end-worth : EndAt s i → isBad (worth (recordOf 59 (drop i s))) ≡ false
   end-worth (k, rest, h, e) =
@@ -74,10 +89,7 @@ module _ (s : List ℕ) (i : ℕ) where
           let ends = finished-item (drop i s) f in
           let back = tape-lawful .end-back (ends .0) (drop i s) (ends .1) in
           absurd (no-end (ends .0, drop 11 (drop i s), back .1 .0, back .2 ∙ ap (λ (t : List ℕ). t ++ drop 11 (drop i s)) (back .1 .1)))
-      by-item (stretch r) f =
-          let back = tape-lawful .data-back 0 r (drop i s) (worth-item 0 (drop i s) r f) in
-          let after : List ℕ = drop (11 + 2 * length (r .bytes)) (drop i s) in
-          absurd (no-data (r, drop (11 + 2 * length (r .bytes)) (drop i s), back .1 .0, back .2 ∙ ap (λ (t : List ℕ). t ++ drop (11 + 2 * length (r .bytes)) (drop i s)) (back .1 .1)))
+      by-item (stretch r) f = absurd (no-data (recordText (r .first) (r .bytes), worth-begins (drop i s) r f))
 
 dropped-from : (at : ℕ) (s : List ℕ) → saved at s .dropped ≡ numberOf (lost s) (length s)
 dropped-from at [] = refl

@@ -1,12 +1,13 @@
 -- The status, the line and the sentence of a watched run of an image.
 use Prim.Native.Nat.{ℕ, _+_}
-use mathlib.Core.List.{List, _++_}
+use mathlib.Core.List.{List, [], _++_}
 use Rattle.laws.specs.Characters.{characters}
 use Rattle.text.specs.Numerals.{decimal, spaced, hex4}
 use Rattle.states.specs.Fields.{machineFields}
 use Rattle.statuses.specs.declared.Goal.{Goal}
 use Rattle.statuses.specs.Statuses.{endStatus}
 use Rattle.sentences.specs.Line.{line}
+use Rattle.sentences.specs.Sentence.{sentence}
 use Rattle.witness.specs.declared.Watched.{Watched}
 use Rattle.witness.specs.declared.Halt.{Halt}
 
@@ -33,3 +34,8 @@ would steps place =
 abbrev pub oathText : ℕ → ℕ → Watched → List ℕ
 oathText first last (Watched.Ran q) = unread first last (q .steps)
 oathText first last (Watched.Halted h) = would (h .steps) (h .place)
+
+-- how the run ended, in words, where it was not halted; x is the memory that it left
+abbrev pub endText : Goal → Watched → List ℕ → List ℕ
+endText goal (Watched.Ran q) x = sentence goal q x
+endText goal (Watched.Halted h) x = []

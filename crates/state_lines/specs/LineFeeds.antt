@@ -9,7 +9,7 @@ use Rattle.registers.specs.declared.Registers.{Registers}
 use Rattle.registers.specs.StatusByte.{pushedByte}
 use Rattle.registers.specs.RoundTrip.{pushed-byte}
 use Rattle.manual.specs.declared.Machine.{Machine}
-use Rattle.manual.specs.Theorems.RegistersInRange.{InRange}
+use Rattle.registers.specs.InRange.{InRange}
 use Rattle.reading.specs.Numbers.{digitValue}
 use Rattle.text.specs.Numerals.{digit, hex2, hex4, decimal, spaced}
 use Rattle.states.specs.Fields.{registerFields, machineFields}

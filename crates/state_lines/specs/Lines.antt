@@ -4,7 +4,7 @@ use mathlib.Core.Path.{_≡_}
 use mathlib.Core.Bool.{true}
 use mathlib.Core.List.{List, _++_}
 use Rattle.manual.specs.declared.Machine.{Machine}
-use Rattle.manual.specs.Theorems.RegistersInRange.{InRange}
+use Rattle.registers.specs.InRange.{InRange}
 use Rattle.laws.specs.Characters.{characters}
 use Rattle.states.specs.Fields.{machineFields}
 

@@ -13,7 +13,7 @@ use Rattle.manual.specs.declared.Reason.the-variants.{Made}
 use Rattle.manual.specs.Micro.{exec, Gives}
 use Rattle.manual.specs.Outcomes.{isMade, ended}
 use Rattle.manual.specs.Interrupts.{idle}
-use Rattle.manual.specs.Stepping.{fullMemory, stepFull, runFull}
+use Rattle.manual.specs.Stepping.{runWhile, fullMemory, stepFull, runFull}
 use Rattle.manual.specs.Theorems.Programs.{exec-then}
 use Rattle.manual.specs.Theorems.StepLaws.{step-late, step-serves, step-undefined, step-defined}
 use Rattle.manual.specs.Theorems.Answers.{Way, late, serves, undefined, ready, way}
@@ -64,11 +64,11 @@ module _ (s : Machine) (m : List ℕ) (q : Stepped) (m′ : List ℕ) (g : Gives
   one-more = omega arith
 
   pub run-next : isMade (q .reason) ≡ true → exec (runFull (bound - k) k idle s) m ≡ exec (runFull (bound - (k + 1)) (k + 1) idle (q .machine)) m′
-  unfolding runFull
+  unfolding runFull runWhile
   run-next h = rw one-more (exec-then (stepFull idle s) _ m g ∙ rw h)
 
   pub run-refused : isMade (q .reason) ≡ false → Gives (runFull (bound - k) k idle s) m (ended (q .reason) k (q .machine)) m′
-  unfolding runFull
+  unfolding runFull runWhile
   run-refused h = rw one-more (exec-then (stepFull idle s) _ m g ∙ rw h)
 
   pub next-line : isMade (q .reason) ≡ true
@@ -87,7 +87,7 @@ no-steps s m bound k h =
     rw none
 
 pub no-more-steps : (s : Machine) (m : List ℕ) (bound k : ℕ) → bound ≤ k → Gives (runFull (bound - k) k idle s) m (ended Made k s) m
-unfolding runFull
+unfolding runFull runWhile
 no-more-steps s m bound k h =
     let none : bound - k ≡ 0 = omega arith in
     rw none

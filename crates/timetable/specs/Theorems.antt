@@ -13,7 +13,7 @@ use Rattle.manual.specs.declared.Reason.the-variants.{Made, MemoryNotFull, NoCy
 use Rattle.manual.specs.Micro.{done, exec, Gives}
 use Rattle.manual.specs.Outcomes.{isMade, ended}
 use Rattle.manual.specs.Interrupts.{idle}
-use Rattle.manual.specs.Stepping.{stepFull, runFull}
+use Rattle.manual.specs.Stepping.{runWhile, stepFull, runFull}
 use Rattle.manual.specs.Theorems.Programs.{exec-bind}
 use Rattle.timetable.specs.Timetable.{shown, fullTimetable}
 
@@ -38,7 +38,7 @@ module _ (a b k : ℕ) (s : Machine) (m : List ℕ) (q : Ended) (m′ : List ℕ
 -- Where all of the first a steps are made, the lines of a + b steps are those of the a, and then those of b more from what they leave.
 pub in-parts : (a b k : ℕ) (s : Machine) (m : List ℕ) {q : Ended} {m′ : List ℕ} → Gives (runFull a k idle s) m q m′ → q .reason ≡ Made
     → fullTimetable (a + b) s m ≡ fullTimetable a s m ++ fullTimetable b (q .machine) m′
-unfolding runFull fullTimetable
+unfolding runFull runWhile fullTimetable
 in-parts zero b k s m g h = rw zero-add (ap (λ (w : Ended × List ℕ). fullTimetable b (w .0 .machine) (w .1)) g)
 in-parts (suc a) b k s m {q} {m′} g h =
     let w = exec (stepFull idle s) m in

@@ -14,7 +14,7 @@ use Rattle.manual.specs.declared.Reason.the-variants.{Made, NoCycleRoom, NotAnO
 use Rattle.manual.specs.Micro.{done, exec, Gives}
 use Rattle.manual.specs.Outcomes.{isMade, refused, ended}
 use Rattle.manual.specs.Interrupts.{idle}
-use Rattle.manual.specs.Stepping.{fullMemory, stepFull, runFull, longRun}
+use Rattle.manual.specs.Stepping.{runWhile, fullMemory, stepFull, runFull, longRun}
 use Rattle.manual.specs.Theorems.Programs.{exec-bind}
 use Rattle.manual.specs.Theorems.StepLaws.{long-whole, step-late, step-undefined}
 use Rattle.manual.specs.Theorems.Within.{Bytes}
@@ -95,7 +95,7 @@ module _ (a b k : ℕ) (s : Machine) (m : List ℕ) (q : Ended) (m′ : List ℕ
 -- parts is the whole trace.
 pub in-parts : (a b k : ℕ) (s : Machine) (m : List ℕ) {q : Ended} {m′ : List ℕ} → Gives (runFull a k idle s) m q m′ → q .reason ≡ Made
     → fullTrace (a + b) s m ≡ fullTrace a s m ++ fullTrace b (q .machine) m′
-unfolding runFull fullTrace
+unfolding runFull runWhile fullTrace
 in-parts zero b k s m g h = rw zero-add (ap (λ (w : Ended × List ℕ). fullTrace b (w .0 .machine) (w .1)) g)
 in-parts (suc a) b k s m {q} {m′} g h =
     let w = exec (stepFull idle s) m in

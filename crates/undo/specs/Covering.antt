@@ -17,7 +17,7 @@ use Rattle.manual.specs.declared.Lines.{Lines}
 use Rattle.manual.specs.declared.Machine.{Machine}
 use Rattle.manual.specs.declared.Due.{Due}
 use Rattle.manual.specs.declared.Due.the-variants.{Through, Quiet}
-use Rattle.manual.specs.Words.{low, joined}
+use Rattle.manual.specs.Words.{lowByte, joined}
 use Rattle.manual.specs.Interrupts.{due}
 use Rattle.manual.specs.Stepping.{fullMemory, highestCount}
 use Rattle.manual.specs.Theorems.Programs.{_∈_}
@@ -25,7 +25,7 @@ use Rattle.manual.specs.Theorems.Accesses.{aim, threePushed, storedTo}
 use Rattle.manual.specs.Theorems.Stores.{storedByEntry, storedByDue, storedByStep}
 
 abbrev pub covering : Registers → ℕ → List ℕ
-covering r goal = joined 1 (r .stack .0) ∷ joined 1 (low (r .stack .0 + 255)) ∷ joined 1 (low (r .stack .0 + 254)) ∷ goal ∷ []
+covering r goal = joined 1 (r .stack .0) ∷ joined 1 (lowByte (r .stack .0 + 255)) ∷ joined 1 (lowByte (r .stack .0 + 254)) ∷ goal ∷ []
 
 -- where the entry's mode leads; any place will do where there is no entry
 abbrev pub goalOf : Decoded → Registers → List ℕ → ℕ

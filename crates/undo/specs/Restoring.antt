@@ -15,7 +15,7 @@ use Rattle.manual.specs.declared.Lines.{Lines}
 use Rattle.manual.specs.declared.Machine.{Machine}
 use Rattle.manual.specs.declared.Stepped.{Stepped}
 use Rattle.manual.specs.Micro.{Micro, exec, stores, Gives}
-use Rattle.manual.specs.Words.{low, joined}
+use Rattle.manual.specs.Words.{lowByte, joined}
 use Rattle.manual.specs.Stepping.{step}
 use Rattle.manual.specs.Theorems.Programs.{_∈_, untouched, exec-length}
 use Rattle.manual.specs.Theorems.Stores.{step-stores}
@@ -90,8 +90,8 @@ keptAt place m = record { place = place; value = getD m place 0 }
 abbrev pub keptFor : Registers → List ℕ → Kept
 keptFor r m = record {
   first = keptAt (joined 1 (r .stack .0)) m;
-  second = keptAt (joined 1 (low (r .stack .0 + 255))) m;
-  third = keptAt (joined 1 (low (r .stack .0 + 254))) m;
+  second = keptAt (joined 1 (lowByte (r .stack .0 + 255))) m;
+  third = keptAt (joined 1 (lowByte (r .stack .0 + 254))) m;
   goal = keptAt (goalOf (decoded (getD m (r .counter) 0)) r m) m;
 }
 

@@ -39,7 +39,7 @@ told-alike seal registers cycles w₁ w₂ {v₁} {v₂} {e₁} {e₂} (same, d)
 
 module _ (seal : ℕ → Bool) (bound lines registers cycles : ℕ) (m₁ m₂ : List ℕ) {v₁ v₂ : WatchNumbers} {e₁ e₂ : List ℕ}
     (d : Differ (Under seal) m₁ m₂) where
-  -- Nothing that comes back depends on a sealed byte. On two full memories that differ only in sealed bytes the answer, the steps, the place
+  -- No number that comes back depends on a sealed byte. On two full memories that differ only in sealed bytes the answer, the steps, the place
   -- and both numbers are the same, and so are the bytes that are left elsewhere.
   pub numbers-apart : (v₁, e₁) ≡ watchedOnNumbers seal bound lines registers cycles m₁
       → (v₂, e₂) ≡ watchedOnNumbers seal bound lines registers cycles m₂

@@ -162,8 +162,9 @@ moved seal lines v₁ v₂ w₁ w₂ e f h =
 -- ---- the code's answers
 
 module _ (seal : ℕ → Bool) (bound : ℕ) (lines : Lines) (s : Machine) (m₁ m₂ : List ℕ) {e₁ e₂ : List ℕ} (d : Differ (Under seal) m₁ m₂) where
-  -- Nothing that a watched run gives depends on a sealed byte. On two full memories that differ only in sealed bytes it answers the same:
-  -- reason, steps, registers, cycles, and the address where it was halted; and it leaves the same bytes elsewhere. There is no condition.
+  -- No answer of a watched run depends on a sealed byte, and no byte that it leaves elsewhere. On two full memories that differ only in sealed
+  -- bytes it answers the same: reason, steps, registers, cycles, and the address where it was halted; and it leaves the same bytes elsewhere.
+  -- There is no condition.
   pub code-watched-apart : (r₁ r₂ : Watched)
       → (r₁, e₁) ≡ guarded seal (length m₁) bound lines s m₁
       → (r₂, e₂) ≡ guarded seal (length m₂) bound lines s m₂

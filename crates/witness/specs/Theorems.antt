@@ -10,7 +10,7 @@ use Rattle.manual.specs.declared.Lines.{Lines}
 use Rattle.manual.specs.declared.Machine.{Machine}
 use Rattle.manual.specs.declared.Stepped.{Stepped}
 use Rattle.manual.specs.declared.Reason.{Reason}
-use Rattle.manual.specs.declared.Reason.the-variants.{Made, MemoryNotFull, NoCycleRoom, NotAnOpcode, BoundTooHigh}
+use Rattle.manual.specs.declared.Reason.the-variants.{Made}
 use Rattle.manual.specs.Micro.{Micro, done, read, write, exec, accesses, reads, Gives}
 use Rattle.manual.specs.Outcomes.{isMade, ended}
 use Rattle.manual.specs.Stepping.{stepFull, runFull}
@@ -18,7 +18,7 @@ use Rattle.manual.specs.ReadList.{listedStepFull, listedRunFull}
 use Rattle.manual.specs.Theorems.Programs.{_∈_, alike, exec-length}
 use Rattle.manual.specs.Theorems.Reads.{step-full-reads}
 use Rattle.manual.specs.Theorems.Sealed.{Differ, Unsealed, agree-set, sealed}
-use Rattle.manual.specs.Theorems.StepLaws.{run-more, run-stop, run-end}
+use Rattle.manual.specs.Theorems.StepLaws.{was-made, was-refused, run-more, run-stop, run-end}
 use Rattle.witness.specs.declared.Watched.{Watched}
 use Rattle.witness.specs.declared.seals.Seen.{Seen}
 use Rattle.witness.specs.declared.seals.Seen.the-variants.{Nothing, At}
@@ -31,16 +31,6 @@ Under seal a = seal a ≡ true
 -- true is not false
 pub never : {A : Type 0} → true ≡ false → A
 never e = let z : _≡_ {A = ℕ} 0 1 = cc in absurd (omega arith)
-
-was-made : (r : Reason) → isMade r ≡ true → r ≡ Made
-was-made Made e = refl
-was-made MemoryNotFull e = never (sym e)
-was-made NoCycleRoom e = never (sym e)
-was-made NotAnOpcode e = never (sym e)
-was-made BoundTooHigh e = never (sym e)
-
-was-refused : (r : Reason) → isMade r ≡ false → r ≡ Made → ⊥
-was-refused r e p = never (sym (ap isMade p) ∙ e)
 
 module _ (seal : ℕ → Bool) (lines : Lines) where
   -- ---- lists

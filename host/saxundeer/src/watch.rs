@@ -125,7 +125,9 @@ impl Numbers {
 }
 
 /// At most `bound` steps as by [`run`](crate::run), halted before the first that would read a byte of a sealed page: one whose
-/// byte in `pages` is not 0. A store to a sealed address is no read. Nothing that it gives depends on a sealed byte.
+/// byte in `pages` is not 0. A store to a sealed address is no read. Nothing that it answers depends on a sealed byte, and no byte
+/// that it leaves at any other address. The sealed bytes are still in `memory`: whoever writes it out hands them out, unless they
+/// were zeros before the run.
 pub fn watched_run(
     machine: Machine,
     bound: u64,

@@ -2,7 +2,7 @@
 -- after they have pushed: BRK its vector, as a served line does, and JSR the high byte of its operand. A store for each written byte: a store's target, a modified byte's, and what is pushed.
 use Prim.Native.Nat.{ℕ, _+_}
 use mathlib.Core.Path.{_≡_, refl, ap, ap₂, _∙_}
-use mathlib.Core.Bool.{Bool, true, false, not, cond}
+use mathlib.Core.Bool.{Bool, true, not, cond, _&&_, _||_}
 use mathlib.Core.List.{List, [], _∷_, _++_, map, append-nil}
 use native.Mathlib.Omega.{arith}
 use lib.Dec.{T, eqb, ltb}
@@ -26,13 +26,13 @@ use Rattle.manual.specs.declared.Due.{Due}
 use Rattle.manual.specs.declared.Due.the-variants.{Through, Quiet}
 use Rattle.manual.specs.declared.Target.{Target}
 use Rattle.manual.specs.Micro.{Micro, read, exec, Access, readAt, storeAt, accesses, readsOf, storesOf, _>>=_}
-use Rattle.manual.specs.Words.{low, joined}
+use Rattle.manual.specs.Words.{lowByte, joined}
 use Rattle.manual.specs.Addressing.{target}
 use Rattle.manual.specs.Stack.{push, pull, pushAddress, pullAddress}
 use Rattle.manual.specs.Interrupts.{enter, served, due}
 use Rattle.manual.specs.Instructions.{modify, perform}
 use Rattle.manual.specs.Stepping.{fullMemory, highestCount, act, attend, stepFull, step}
-use Rattle.manual.specs.ReadList.{is, operands, pointers, reached, listed, listedDue}
+use Rattle.manual.specs.ReadList.{addressed, operands, pointers, reached, listed, listedDue}
 use Rattle.manual.specs.Theorems.Programs.{accesses-bind, reads-append, stores-append, alike}
 
 -- ---- the list
@@ -43,7 +43,7 @@ aim mode r m = exec (target mode r) m .0 .address
 
 -- the places of three pushes
 abbrev pub threePushed : Registers → List ℕ
-threePushed r = joined 1 (r .stack .0) ∷ joined 1 (low (r .stack .0 + 255)) ∷ joined 1 (low (r .stack .0 + 254)) ∷ []
+threePushed r = joined 1 (r .stack .0) ∷ joined 1 (lowByte (r .stack .0 + 255)) ∷ joined 1 (lowByte (r .stack .0 + 254)) ∷ []
 
 abbrev pub storedTo : Instruction → AddressingMode → Registers → List ℕ → List ℕ
 storedTo (Read k) mode r m = []
@@ -52,7 +52,7 @@ storedTo (Modify k) mode r m = cond (eqb (operandBytes mode) 0) [] (aim mode r m
 storedTo (Branch k) mode r m = []
 storedTo (Internal k) mode r m = []
 storedTo JMP mode r m = []
-storedTo JSR mode r m = joined 1 (r .stack .0) ∷ joined 1 (low (r .stack .0 + 255)) ∷ []
+storedTo JSR mode r m = joined 1 (r .stack .0) ∷ joined 1 (lowByte (r .stack .0 + 255)) ∷ []
 storedTo RTS mode r m = []
 storedTo RTI mode r m = []
 storedTo PLA mode r m = []
@@ -105,6 +105,49 @@ abbrev pub accessedByStep : ℕ → Lines → Machine → List ℕ → List Acce
 accessedByStep size lines s m =
     cond (eqb size fullMemory) (cond (ltb highestCount (s .cycles)) [] (accessedByDue (due lines s) (s .registers) m)) []
 
+-- ---- which modes suit an instruction
+
+-- the modes told apart by number
+abbrev modeNumber : AddressingMode → ℕ
+modeNumber Accumulator = 0
+modeNumber Implied = 1
+modeNumber Immediate = 2
+modeNumber ZeroPage = 3
+modeNumber ZeroPageX = 4
+modeNumber ZeroPageY = 5
+modeNumber Relative = 6
+modeNumber Absolute = 7
+modeNumber AbsoluteX = 8
+modeNumber AbsoluteY = 9
+modeNumber BuggyIndirect = 10
+modeNumber IndexedIndirectX = 11
+modeNumber IndirectIndexedY = 12
+
+abbrev pub is : AddressingMode → AddressingMode → Bool
+is a b = eqb (modeNumber a) (modeNumber b)
+
+-- Only a read takes an immediate operand, and only a modification the accumulator. Only JMP goes through a pointer in any page.
+abbrev pub suits : Instruction → AddressingMode → Bool
+suits (Read k) mode = not (is mode BuggyIndirect) && (addressed mode || is mode Immediate)
+suits (Store k) mode = not (is mode Immediate)
+suits (Modify k) mode = not (is mode BuggyIndirect) && (addressed mode || is mode Accumulator)
+suits (Branch k) mode = not (is mode Immediate)
+suits (Internal k) mode = true
+suits JMP mode = not (is mode Immediate)
+suits JSR mode = true
+suits RTS mode = true
+suits RTI mode = true
+suits PLA mode = true
+suits PLP mode = true
+suits PHA mode = true
+suits PHP mode = true
+suits BRK mode = true
+
+-- every entry of the table suits
+pub entry-suits : (k : ℕ) (e : Entry) → decoded k ≡ Defined e → T (suits (e .instruction) (e .mode))
+unfolding rows
+entry-suits = every-entry (λ e. suits (e .instruction) (e .mode)) tt
+
 -- ---- the definition does exactly this
 
 -- the program p does l
@@ -131,62 +174,58 @@ aim-accesses IndirectIndexedY f r m h = refl
 
 -- and reads there
 fetch-accesses : {A : Type 0} (mode : AddressingMode) (k : Target → ℕ → Micro A) (r : Registers) (m : List ℕ)
+    → T (not (is mode BuggyIndirect) && (addressed mode || is mode Immediate))
     → accesses (target mode r >>= (λ t. read (t .address) (k t))) m
     ≡ map readAt (operands mode r ++ pointers mode r m ++ reached mode r m)
     ++ accesses (k (exec (target mode r) m .0) (getD m (aim mode r m) 0)) m
 unfolding accesses target
-fetch-accesses Accumulator k r m = refl
-fetch-accesses Implied k r m = refl
-fetch-accesses Immediate k r m = refl
-fetch-accesses ZeroPage k r m = refl
-fetch-accesses ZeroPageX k r m = refl
-fetch-accesses ZeroPageY k r m = refl
-fetch-accesses Relative k r m = refl
-fetch-accesses Absolute k r m = refl
-fetch-accesses AbsoluteX k r m = refl
-fetch-accesses AbsoluteY k r m = refl
-fetch-accesses BuggyIndirect k r m = refl
-fetch-accesses IndexedIndirectX k r m = refl
-fetch-accesses IndirectIndexedY k r m = refl
+fetch-accesses Accumulator k r m h = absurd h
+fetch-accesses Implied k r m h = absurd h
+fetch-accesses Immediate k r m h = refl
+fetch-accesses ZeroPage k r m h = refl
+fetch-accesses ZeroPageX k r m h = refl
+fetch-accesses ZeroPageY k r m h = refl
+fetch-accesses Relative k r m h = absurd h
+fetch-accesses Absolute k r m h = refl
+fetch-accesses AbsoluteX k r m h = refl
+fetch-accesses AbsoluteY k r m h = refl
+fetch-accesses BuggyIndirect k r m h = absurd h
+fetch-accesses IndexedIndirectX k r m h = refl
+fetch-accesses IndirectIndexedY k r m h = refl
 
--- only a read takes an immediate operand, and only JMP goes through a pointer in any page
-abbrev pub suits : Instruction → AddressingMode → Bool
-suits (Read k) mode = not (is mode BuggyIndirect)
-suits (Store k) mode = not (is mode Immediate)
-suits (Modify k) mode = not (is mode BuggyIndirect)
-suits (Branch k) mode = not (is mode Immediate)
-suits (Internal k) mode = true
-suits JMP mode = not (is mode Immediate)
-suits JSR mode = true
-suits RTS mode = true
-suits RTI mode = true
-suits PLA mode = true
-suits PLP mode = true
-suits PHA mode = true
-suits PHP mode = true
-suits BRK mode = true
+-- a modification reads and stores there, or is of the accumulator
+modify-accesses : (k : ModifyOperation) (mode : AddressingMode) (r : Registers) (m : List ℕ) → T (suits (Modify k) mode)
+    → accesses (modify k mode r) m ≡ accessed (Modify k) mode r m
+unfolding accesses target modify
+modify-accesses k Accumulator r m h = refl
+modify-accesses k Implied r m h = absurd h
+modify-accesses k Immediate r m h = absurd h
+modify-accesses k ZeroPage r m h = refl
+modify-accesses k ZeroPageX r m h = refl
+modify-accesses k ZeroPageY r m h = refl
+modify-accesses k Relative r m h = absurd h
+modify-accesses k Absolute r m h = refl
+modify-accesses k AbsoluteX r m h = refl
+modify-accesses k AbsoluteY r m h = refl
+modify-accesses k BuggyIndirect r m h = absurd h
+modify-accesses k IndexedIndirectX r m h = refl
+modify-accesses k IndirectIndexedY r m h = refl
 
-up-up : (n : ℕ) → up (up n) ≡ low (n + 2)
+up-up : (n : ℕ) → up (up n) ≡ lowByte (n + 2)
 up-up n = omega arith
 
-up-again : (n : ℕ) → up (low (n + 2)) ≡ low (n + 3)
+up-again : (n : ℕ) → up (lowByte (n + 2)) ≡ lowByte (n + 3)
 up-again n = omega arith
 
-down-down : (n : ℕ) → down (down n) ≡ low (n + 254)
+down-down : (n : ℕ) → down (down n) ≡ lowByte (n + 254)
 down-down n = omega arith
-
--- with no operand byte nothing is read and nothing stored
-modify-accesses : (t : Bool) {A : Type 0} (p q : Micro A) (l k m : List ℕ) → accesses p m ≡ [] → accesses q m ≡ map readAt l ++ map storeAt k
-    → accesses (cond t p q) m ≡ map readAt (cond t [] l) ++ map storeAt (cond t [] k)
-modify-accesses true p q l k m e f = e
-modify-accesses false p q l k m e f = f
 
 perform-accesses : (i : Instruction) (mode : AddressingMode) (r : Registers) (m : List ℕ) → T (suits i mode)
     → accesses (perform i mode r) m ≡ accessed i mode r m
 unfolding accesses perform modify push pull pushAddress pullAddress enter setS
-perform-accesses (Read k) mode r m h = fetch-accesses mode _ r m
+perform-accesses (Read k) mode r m h = fetch-accesses mode _ r m h
 perform-accesses (Store k) mode r m h = aim-accesses mode _ r m h
-perform-accesses (Modify k) mode r m h = modify-accesses (eqb (operandBytes mode) 0) _ _ _ _ m refl (fetch-accesses mode _ r m)
+perform-accesses (Modify k) mode r m h = modify-accesses k mode r m h
 perform-accesses (Branch k) mode r m h = aim-accesses mode _ r m h
 perform-accesses (Internal k) mode r m h = refl
 perform-accesses JMP mode r m h = aim-accesses mode _ r m h
@@ -198,11 +237,6 @@ perform-accesses PLP mode r m h = refl
 perform-accesses PHA mode r m h = refl
 perform-accesses PHP mode r m h = refl
 perform-accesses BRK mode r m h = simp down-down
-
--- every entry of the table suits
-pub entry-suits : (k : ℕ) (e : Entry) → decoded k ≡ Defined e → T (suits (e .instruction) (e .mode))
-unfolding rows
-entry-suits = every-entry (λ e. suits (e .instruction) (e .mode)) tt
 
 pub act-accesses : (d : Decoded) (lines : Lines) (s : Machine) (m : List ℕ) → ((e : Entry) → d ≡ Defined e → T (suits (e .instruction) (e .mode)))
     → accesses (act d lines s) m ≡ accessedByEntry d (s .registers) m

@@ -73,6 +73,8 @@ pub record StepAnswers (size : ℕ) (lines : Lines) (s : Machine) (m : List ℕ)
   pub one : (stepAnswer size lines s m ≡ 1) ↔ (size ≡ fullMemory → ⊥)
   pub two : (stepAnswer size lines s m ≡ 2) ↔ ((size ≡ fullMemory) × NoRoom s)
   pub three : (stepAnswer size lines s m ≡ 3) ↔ ((size ≡ fullMemory) × NoOpcode lines s m)
+  -- a step has no bound that could be too high
+  pub four : stepAnswer size lines s m ≡ 4 → ⊥
   pub unchanged : (stepAnswer size lines s m ≡ 0 → ⊥) → Gives (step size lines s) m (refused (exec (step size lines s) m .0 .reason) s) m
 
 pub not-both : (d : Decoded) (e : Entry) → d ≡ Undefined → d ≡ Defined e → ⊥
@@ -103,6 +105,7 @@ module _ (size : ℕ) (lines : Lines) (s : Machine) (m : List ℕ) where
     one = (λ z. absurd (omega arith), λ c. absurd (c f));
     two = (λ z. absurd (omega arith), λ c. absurd (omega (arith, has-room lines s m h)));
     three = (λ z. absurd (omega arith), λ c. absurd (not-made lines s m (c .1) h));
+    four = λ z. omega arith;
     unchanged = λ z. absurd (z a);
   }
 
@@ -115,6 +118,7 @@ module _ (size : ℕ) (lines : Lines) (s : Machine) (m : List ℕ) where
         one = (λ z. absurd (omega arith), λ c. absurd (c f));
         two = (λ z. (f, h), λ c. a);
         three = (λ z. absurd (omega arith), λ c. absurd (omega (arith, c .1 .0)));
+        four = λ z. omega arith;
         unchanged = λ z. stays NoCycleRoom g;
       }
   by-way f (serves h) = is-made f (inl h) (answers size lines s m (whole f (step-serves lines s m (h .1 .0) (h .0) (h .1 .1) refl)))
@@ -126,6 +130,7 @@ module _ (size : ℕ) (lines : Lines) (s : Machine) (m : List ℕ) where
         one = (λ z. absurd (omega arith), λ c. absurd (c f));
         two = (λ z. absurd (omega arith), λ c. absurd (omega (arith, h .0)));
         three = (λ z. (f, h), λ c. a);
+        four = λ z. omega arith;
         unchanged = λ z. stays NotAnOpcode g;
       }
   by-way f (ready h) = is-made f (inr h) (answers size lines s m (whole f (step-defined lines s m (h .2 .0) (h .0) (h .1) (h .2 .1) refl)))
@@ -139,6 +144,7 @@ module _ (size : ℕ) (lines : Lines) (s : Machine) (m : List ℕ) where
         one = (λ z. f, λ c. a);
         two = (λ z. absurd (omega arith), λ c. absurd (f (c .0)));
         three = (λ z. absurd (omega arith), λ c. absurd (f (c .0)));
+        four = λ z. omega arith;
         unchanged = λ z. stays MemoryNotFull g;
       }
 

@@ -10,7 +10,7 @@ use lib.IntN.{ℤ, pos, negsuc, negℤ, _+ℤ_, _-ℤ_}
 use lib.Signed.{_≤ℤ_}
 use Rattle.registers.specs.declared.Registers.{Registers}
 use Rattle.registers.specs.StatusByte.{bit, bitAt}
-use Rattle.manual.specs.Words.{low, signed, outside}
+use Rattle.manual.specs.Words.{lowByte, signed, outside}
 use Rattle.registers.specs.State.{setNZ, setC, setStatus, flags}
 use Rattle.manual.specs.Arithmetic.{sumOverflows, differenceOverflows, binarySum, binaryDifference}
 use Rattle.manual.specs.Flags.{shown}
@@ -104,7 +104,7 @@ pub record Compared (register m : ℕ) (before after : Registers) : Type 0 where
   -- Z is set exactly if the two are equal
   pub zero : after .status .zero ≡ true ↔ register ≡ m
   -- N is bit 7 of the difference modulo 256
-  pub negative : after .status .negative ≡ bitAt 7 (low (register + 256 - m))
+  pub negative : after .status .negative ≡ bitAt 7 (lowByte (register + 256 - m))
   -- nothing else changes: with N, Z and C put back, these are the registers before
   pub unchanged :
       flags (λ p. setC (before .status .carry) (setNZ (before .status .negative) (before .status .zero) p)) after ≡ before
@@ -114,7 +114,7 @@ pub compare-flags : (register m : ℕ) (r : Registers) → register < 256 → m 
 unfolding compared shown flags setStatus setNZ setC
 compare-flags register m r register-byte m-byte = record {
   carry = (leb-true m register, le-leb m register);
-  zero = (λ e. omega (arith, eqb-true (low (register + 256 - m)) 0 e), λ e. eq-eqb (low (register + 256 - m)) 0 (omega arith));
+  zero = (λ e. omega (arith, eqb-true (lowByte (register + 256 - m)) 0 e), λ e. eq-eqb (lowByte (register + 256 - m)) 0 (omega arith));
   negative = refl;
   unchanged = refl;
 }

@@ -7,7 +7,7 @@ use borrow.Author.Tests.{lt-ltb, le-ltb}
 use lib.Dec.{leb, ltb}
 use lib.IntN.{pos, negℤ, _-ℤ_}
 use Rattle.registers.specs.StatusByte.{bit}
-use Rattle.manual.specs.Words.{low, signed, outside}
+use Rattle.manual.specs.Words.{lowByte, signed, outside}
 use Rattle.manual.specs.Arithmetic.{sumOverflows, differenceOverflows, binarySum, binaryDifference}
 use Rattle.manual.specs.Theorems.IntegerLemmas.{by-test, bit-not, natural, sum, negated, of-byte, same}
 
@@ -39,5 +39,5 @@ module _ (a m : ℕ) (c : Bool) (a-byte : a < 256) (m-byte : m < 256) where
   unfolding binarySum binaryDifference
   complement =
       let flags = bit-not c in
-      let result : low (a + (255 - m) + bit c) ≡ low (a + 256 - m - bit (not c)) = omega arith in
+      let result : lowByte (a + (255 - m) + bit c) ≡ lowByte (a + 256 - m - bit (not c)) = omega arith in
       rw (result, carry-complement, overflow-complement)

@@ -14,7 +14,7 @@ use Rattle.manual.specs.Micro.{accesses, reads, Gives}
 use Rattle.manual.specs.declared.Reason.the-variants.{Made, MemoryNotFull, NoCycleRoom, BoundTooHigh}
 use Rattle.manual.specs.Outcomes.{refused, ended}
 use Rattle.manual.specs.Interrupts.{due}
-use Rattle.manual.specs.Stepping.{stepFull, step, runFull, run}
+use Rattle.manual.specs.Stepping.{stepFull, step, runWhile, runFull, run}
 use Rattle.manual.specs.Theorems.StepLaws.{opcodeOf, step-late}
 use Rattle.manual.specs.Theorems.Answers.{stepAnswer, step-answers}
 use Rattle.manual.specs.Theorems.RunAnswers.{no-cycle-room, ran, run-answers}
@@ -71,9 +71,9 @@ module _ (lines : Lines) (s : Machine) (m : List ℕ) where
 
   -- A bound of 0 on a full memory answers 0 with 0 steps, and reads nothing.
   pub bound-0 : Gives (run 65536 0 lines s) m (ended Made 0 s) m
-  unfolding run runFull
+  unfolding run runFull runWhile
   bound-0 = refl
 
   pub bound-0-reads : reads (run 65536 0 lines s) m ≡ []
-  unfolding run runFull accesses
+  unfolding run runFull runWhile accesses
   bound-0-reads = refl

@@ -1,7 +1,7 @@
 -- A step reads at most five bytes.
 use Prim.Native.Nat.{ℕ, _≤_}
 use mathlib.Core.Path.{_≡_, refl}
-use mathlib.Core.Bool.{not}
+use mathlib.Core.Bool.{Bool, not, _&&_, _||_}
 use mathlib.Core.List.{List, _++_}
 use native.Mathlib.Omega.{arith}
 use lib.Dec.{T, eqb, ltb, lit≤}
@@ -14,7 +14,6 @@ use Rattle.instruction.specs.declared.AddressingMode.the-variants.{Accumulator,
 use Rattle.instruction.specs.declared.Entry.{Entry}
 use Rattle.instruction.specs.declared.Decoded.{Decoded}
 use Rattle.instruction.specs.declared.Decoded.the-variants.{Defined, Undefined}
-use Rattle.instruction.specs.Modes.{operandBytes}
 use Rattle.instruction.specs.Opcodes.{decoded}
 use Rattle.manual.specs.declared.Lines.{Lines}
 use Rattle.manual.specs.declared.Machine.{Machine}
@@ -23,8 +22,8 @@ use Rattle.manual.specs.declared.Due.the-variants.{Through, Quiet}
 use Rattle.manual.specs.Micro.{reads}
 use Rattle.manual.specs.Interrupts.{due}
 use Rattle.manual.specs.Stepping.{fullMemory, highestCount, step}
-use Rattle.manual.specs.ReadList.{is, operands, pointers, reached, listed, listedEntry, listedDue}
-use Rattle.manual.specs.Theorems.Accesses.{suits, entry-suits}
+use Rattle.manual.specs.ReadList.{addressed, operands, pointers, reached, listed, listedEntry, listedDue}
+use Rattle.manual.specs.Theorems.Accesses.{is, suits, entry-suits}
 use Rattle.manual.specs.Theorems.Reads.{step-reads}
 use Rattle.manual.specs.Theorems.Programs.{either}
 
@@ -47,26 +46,26 @@ few-operands BuggyIndirect r m = lit≤ tt
 few-operands IndexedIndirectX r m = lit≤ tt
 few-operands IndirectIndexedY r m = lit≤ tt
 
-few-reached : (mode : AddressingMode) (r : Registers) (m : List ℕ) → T (not (is mode BuggyIndirect))
+few-reached : (mode : AddressingMode) (r : Registers) (m : List ℕ) (b : Bool) → T (not (is mode BuggyIndirect) && b)
     → length (operands mode r ++ pointers mode r m ++ reached mode r m) ≤ 4
-few-reached Accumulator r m h = lit≤ tt
-few-reached Implied r m h = lit≤ tt
-few-reached Immediate r m h = lit≤ tt
-few-reached ZeroPage r m h = lit≤ tt
-few-reached ZeroPageX r m h = lit≤ tt
-few-reached ZeroPageY r m h = lit≤ tt
-few-reached Relative r m h = lit≤ tt
-few-reached Absolute r m h = lit≤ tt
-few-reached AbsoluteX r m h = lit≤ tt
-few-reached AbsoluteY r m h = lit≤ tt
-few-reached BuggyIndirect r m h = absurd h
-few-reached IndexedIndirectX r m h = lit≤ tt
-few-reached IndirectIndexedY r m h = lit≤ tt
+few-reached Accumulator r m b h = lit≤ tt
+few-reached Implied r m b h = lit≤ tt
+few-reached Immediate r m b h = lit≤ tt
+few-reached ZeroPage r m b h = lit≤ tt
+few-reached ZeroPageX r m b h = lit≤ tt
+few-reached ZeroPageY r m b h = lit≤ tt
+few-reached Relative r m b h = lit≤ tt
+few-reached Absolute r m b h = lit≤ tt
+few-reached AbsoluteX r m b h = lit≤ tt
+few-reached AbsoluteY r m b h = lit≤ tt
+few-reached BuggyIndirect r m b h = absurd h
+few-reached IndexedIndirectX r m b h = lit≤ tt
+few-reached IndirectIndexedY r m b h = lit≤ tt
 
 few-listed : (i : Instruction) (mode : AddressingMode) (r : Registers) (m : List ℕ) → T (suits i mode) → length (listed i mode r m) ≤ 4
-few-listed (Read k) mode r m h = few-reached mode r m h
+few-listed (Read k) mode r m h = few-reached mode r m (addressed mode || is mode Immediate) h
 few-listed (Store k) mode r m h = few-operands mode r m
-few-listed (Modify k) mode r m h = either (Few 4) (eqb (operandBytes mode) 0) _ _ (lit≤ tt) (few-reached mode r m h)
+few-listed (Modify k) mode r m h = few-reached mode r m (addressed mode || is mode Accumulator) h
 few-listed (Branch k) mode r m h = few-operands mode r m
 few-listed (Internal k) mode r m h = lit≤ tt
 few-listed JMP mode r m h = few-operands mode r m

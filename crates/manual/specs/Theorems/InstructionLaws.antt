@@ -1,13 +1,13 @@
 -- What an instruction gives, from what its parts give: the laws that the code's proofs cite.
 use Prim.Native.Nat.{ℕ, _+_}
 use mathlib.Core.Path.{_≡_, refl}
-use mathlib.Core.Bool.{Bool, true, false, cond}
+use mathlib.Core.Bool.{true}
 use mathlib.Core.List.{List}
 use borrow.Author.Tests.{eq-eqb, ne-eqb}
 use lib.ListN.{getD, set}
 use Rattle.registers.specs.declared.Registers.{Registers}
 use Rattle.registers.specs.StatusByte.{bit, pushedByte, servedByte, pulledStatus}
-use Rattle.registers.specs.State.{setA, setPC, setStatus, setV, setC, setI, flags}
+use Rattle.registers.specs.State.{setA, setPC, setStatus, setI, flags}
 use Rattle.instruction.specs.declared.Instruction.the-variants.{Read, Store, Modify, Branch, BRK, JMP, JSR, PHA, PHP, PLA, PLP, RTI, RTS}
 use Rattle.instruction.specs.declared.ReadOperation.{ReadOperation}
 use Rattle.instruction.specs.declared.StoreOperation.{StoreOperation}
@@ -15,38 +15,23 @@ use Rattle.instruction.specs.declared.ModifyOperation.{ModifyOperation}
 use Rattle.instruction.specs.declared.BranchOperation.{BranchOperation}
 use Rattle.instruction.specs.declared.AddressingMode.{AddressingMode}
 use Rattle.instruction.specs.Modes.{operandBytes}
-use Rattle.manual.specs.declared.ArithmeticOutput.{ArithmeticOutput}
 use Rattle.manual.specs.declared.Target.{Target}
 use Rattle.manual.specs.Micro.{done, Gives}
-use Rattle.manual.specs.Words.{low, address, page, joined}
-use Rattle.manual.specs.Flags.{shown}
-use Rattle.manual.specs.Decimal.{decimalShown}
+use Rattle.manual.specs.Words.{lowByte, addressOf, page, joined}
 use Rattle.manual.specs.Branching.{holds, branched}
 use Rattle.manual.specs.Addressing.{operand, target}
-use Rattle.manual.specs.IndexRegisters.{loadA}
+use Rattle.manual.specs.Flags.{loadA}
 use Rattle.manual.specs.Stack.{push, pull, pushAddress, pullAddress}
 use Rattle.manual.specs.Shifting.{modified, modifiedFlags}
 use Rattle.manual.specs.Interrupts.{irqVector, enter, served}
-use Rattle.manual.specs.Instructions.{withOutput, taken, stored, advanced, modify, perform}
+use Rattle.manual.specs.Instructions.{applied, stored, advanced, modify, perform}
 use Rattle.manual.specs.Outcomes.{leavesAt, leaves}
 use Rattle.manual.specs.Theorems.Programs.{then}
-
--- ---- ADC and SBC
-
--- N and Z show the result in either mode
-either-mode : (decimal : Bool) (b : ℕ) (r : Registers) → cond decimal (decimalShown b r) (shown b r) ≡ shown b r
-either-mode true b r = refl
-either-mode false b r = refl
-
-pub output-loaded : (o : ArithmeticOutput) (r : Registers)
-    → withOutput o r ≡ loadA (o .result) (flags (λ p. setV (o .overflow) (setC (o .carry) p)) r)
-unfolding withOutput
-output-loaded o r = either-mode (r .status .decimal) _ _
 
 -- ---- the stack
 
 pub push-address-gives : (p : ℕ) (r : Registers) (m : List ℕ) {r₁ r₂ : Registers} {m₁ m₂ : List ℕ}
-    → Gives (push (page p) r) m r₁ m₁ → Gives (push (low p) r₁) m₁ r₂ m₂ → Gives (pushAddress p r) m r₂ m₂
+    → Gives (push (page p) r) m r₁ m₁ → Gives (push (lowByte p) r₁) m₁ r₂ m₂ → Gives (pushAddress p r) m r₂ m₂
 unfolding pushAddress
 push-address-gives p r m e f = then (push (page p) r) _ m e f
 
@@ -71,7 +56,7 @@ served-gives vector r m e = e
 -- ---- where the mode leads
 
 module _ (mode : AddressingMode) (r : Registers) (m : List ℕ) (t : Target) (e : Gives (target mode r) m t m) where
-  pub read-gives : (k : ReadOperation) → Gives (perform (Read k) mode r) m (leavesAt (t .first) (taken k (getD m (t .address) 0) (advanced mode r)) (bit (t .crossed))) m
+  pub read-gives : (k : ReadOperation) → Gives (perform (Read k) mode r) m (leavesAt (t .first) (applied k (getD m (t .address) 0) (advanced mode r)) (bit (t .crossed))) m
   unfolding perform
   read-gives k = then (target mode r) _ m e refl
 
@@ -110,7 +95,7 @@ module _ (mode : AddressingMode) (r : Registers) (m : List ℕ) where
   call-gives e = then (pushAddress (operand r 2) r) _ m e refl
 
   pub return-gives : {p : ℕ} {r₁ : Registers} → Gives (pullAddress r) m (p, r₁) m
-      → Gives (perform RTS mode r) m (leaves (setPC (address (p + 1)) r₁) 0) m
+      → Gives (perform RTS mode r) m (leaves (setPC (addressOf (p + 1)) r₁) 0) m
   unfolding perform
   return-gives e = then (pullAddress r) _ m e refl
 

@@ -5,16 +5,18 @@ use mathlib.Core.Path.{_≡_, refl, ap, sym, _∙_}
 use mathlib.Core.Bool.{Bool, true, false, cond}
 use mathlib.Core.List.{List}
 use native.Mathlib.Omega.{arith}
+use native.Mathlib.Decide.{ℕ-discrete}
+use lib.ListN.{length}
 use Rattle.manual.specs.declared.Lines.{Lines}
 use Rattle.manual.specs.declared.Machine.{Machine}
 use Rattle.manual.specs.declared.Ended.{Ended}
 use Rattle.manual.specs.declared.Reason.{Reason}
-use Rattle.manual.specs.declared.Reason.the-variants.{Made}
-use Rattle.manual.specs.Micro.{done, exec, Gives}
+use Rattle.manual.specs.declared.Reason.the-variants.{Made, MemoryNotFull}
+use Rattle.manual.specs.Micro.{Micro, done, exec, Gives}
 use Rattle.manual.specs.Outcomes.{isMade, ended}
-use Rattle.manual.specs.Stepping.{fullMemory, highestBound, stepFull, runFull, run, longRun}
-use Rattle.manual.specs.Theorems.Programs.{exec-bind}
-use Rattle.manual.specs.Theorems.StepLaws.{run-short, run-whole}
+use Rattle.manual.specs.Stepping.{fullMemory, highestBound, stepFull, runWhile, runFull, run, longRun}
+use Rattle.manual.specs.Theorems.Programs.{exec-bind, exec-length}
+use Rattle.manual.specs.Theorems.StepLaws.{run-short, run-whole, long-short, long-whole}
 use Rattle.manual.specs.Theorems.RunAnswers.{Ends, all-made, no-cycle-room, not-an-opcode, run-after, ends-run, run-ends, RunTable, ran, memory-not-full, bound-too-high, run-answers}
 
 -- what a run gives, with so many steps counted before it
@@ -23,7 +25,7 @@ added j w = (ended (w .0 .reason) (j + w .0 .steps) (w .0 .machine), w .1)
 
 -- the count goes on from where it begins
 counted-on : (n j k : ℕ) (lines : Lines) (s : Machine) (m : List ℕ) → exec (runFull n (j + k) lines s) m ≡ added j (exec (runFull n k lines s) m)
-unfolding runFull
+unfolding runFull runWhile
 counted-on zero j k lines s m = refl
 counted-on (suc n) j k lines s m =
     let w = exec (stepFull lines s) m in
@@ -59,25 +61,54 @@ module _ (k n : ℕ) (lines : Lines) (s : Machine) (m : List ℕ) where
 
 -- ---- P12
 
-module _ (size k n : ℕ) (lines : Lines) (s : Machine) (m : List ℕ) (allowed : k + n ≤ highestBound) where
-  by-table : {q p : Ended} {m′ m″ : List ℕ} → RunTable size k lines s m q m′ → q .reason ≡ Made → Gives (run size n lines (q .machine)) m′ p m″
-      → Gives (run size (k + n) lines s) m (ended (p .reason) (q .steps + p .steps) (p .machine)) m″
+not-made-short : MemoryNotFull ≡ Made → ⊥
+not-made-short e = let z : _≡_ {A = ℕ} 0 1 = cc in omega arith
+
+-- a run leaves a memory as long as it found it
+stays-long : (p : Micro Ended) (m : List ℕ) {q : Ended} {m′ : List ℕ} → Gives p m q m′ → length m′ ≡ length m
+stays-long p m g = ap (λ (w : Ended × List ℕ). length (w .1)) (sym g) ∙ exec-length p m
+
+module _ (k n : ℕ) (lines : Lines) (s : Machine) (m : List ℕ) (allowed : k + n ≤ highestBound) where
+  by-table : {q p : Ended} {m′ m″ : List ℕ} → RunTable (length m) k lines s m q m′ → q .reason ≡ Made → Gives (run (length m) n lines (q .machine)) m′ p m″
+      → Gives (run (length m) (k + n) lines s) m (ended (p .reason) (q .steps + p .steps) (p .machine)) m″
   by-table {q} {p} {m′} {m″} (ran a e) made g =
-      rw (run-whole size (k + n) lines s (a .0) allowed)
-      (full-lunch k n lines s m (ends-run k lines s m e) made ∙ ap (added (q .steps)) (rw (run-whole size n lines (q .machine) (a .0) (omega arith)) at g))
+      rw (run-whole (length m) (k + n) lines s (a .0) allowed)
+      (full-lunch k n lines s m (ends-run k lines s m e) made ∙ ap (added (q .steps)) (rw (run-whole (length m) n lines (q .machine) (a .0) (omega arith)) at g))
   by-table (memory-not-full f) made g = let z : _≡_ {A = ℕ} 0 1 = cc in absurd (omega arith)
   by-table (bound-too-high e l) made g = let z : _≡_ {A = ℕ} 0 1 = cc in absurd (omega arith)
 
   -- Where the first part answered 0, the two parts are the whole: same reason, machine and memory, and the steps add up.
-  pub lunch : {q p : Ended} {m′ m″ : List ℕ} → Gives (run size k lines s) m q m′ → q .reason ≡ Made → Gives (run size n lines (q .machine)) m′ p m″
-      → Gives (run size (k + n) lines s) m (ended (p .reason) (q .steps + p .steps) (p .machine)) m″
-  lunch g made h = by-table (run-answers size k lines s m .0 g) made h
+  pub lunch : {q p : Ended} {m′ m″ : List ℕ} → Gives (run (length m) k lines s) m q m′ → q .reason ≡ Made
+      → Gives (run (length m′) n lines (q .machine)) m′ p m″
+      → Gives (run (length m) (k + n) lines s) m (ended (p .reason) (q .steps + p .steps) (p .machine)) m″
+  lunch g made h = by-table (run-answers (length m) k lines s m .0 g) made (rw (stays-long (run (length m) k lines s) m g) at h)
 
-  by-refusal : {q : Ended} {m′ : List ℕ} → RunTable size k lines s m q m′ → (q .reason ≡ Made → ⊥) → Gives (run size (k + n) lines s) m q m′
-  by-refusal (ran a e) f = rw (run-whole size (k + n) lines s (a .0) allowed) (full-stopped k n lines s m (ends-run k lines s m e) f)
-  by-refusal (memory-not-full f) g = run-short size (k + n) lines s m f
+  by-refusal : {q : Ended} {m′ : List ℕ} → RunTable (length m) k lines s m q m′ → (q .reason ≡ Made → ⊥) → Gives (run (length m) (k + n) lines s) m q m′
+  by-refusal (ran a e) f = rw (run-whole (length m) (k + n) lines s (a .0) allowed) (full-stopped k n lines s m (ends-run k lines s m e) f)
+  by-refusal (memory-not-full f) g = run-short (length m) (k + n) lines s m f
   by-refusal (bound-too-high e l) f = absurd (omega arith)
 
   -- Where the first part was stopped, its whole answer is the long run's.
-  pub stopped-before-lunch : {q : Ended} {m′ : List ℕ} → Gives (run size k lines s) m q m′ → (q .reason ≡ Made → ⊥) → Gives (run size (k + n) lines s) m q m′
-  stopped-before-lunch g f = by-refusal (run-answers size k lines s m .0 g) f
+  pub stopped-before-lunch : {q : Ended} {m′ : List ℕ} → Gives (run (length m) k lines s) m q m′ → (q .reason ≡ Made → ⊥) → Gives (run (length m) (k + n) lines s) m q m′
+  stopped-before-lunch g f = by-refusal (run-answers (length m) k lines s m .0 g) f
+
+-- likewise of runs of any number of steps
+module _ (k n : ℕ) (lines : Lines) (s : Machine) (m : List ℕ) {q : Ended} {m′ : List ℕ} (g : Gives (longRun (length m) k lines s) m q m′) where
+  pub long-lunch : {p : Ended} {m″ : List ℕ} → q .reason ≡ Made → Gives (longRun (length m′) n lines (q .machine)) m′ p m″
+      → Gives (longRun (length m) (k + n) lines s) m (ended (p .reason) (q .steps + p .steps) (p .machine)) m″
+  long-lunch {p} {m″} made h = by-size (ℕ-discrete (length m) fullMemory)
+    where
+      by-size : Dec (length m ≡ fullMemory) → Gives (longRun (length m) (k + n) lines s) m (ended (p .reason) (q .steps + p .steps) (p .machine)) m″
+      by-size (yes e) =
+          let f : length m′ ≡ fullMemory = stays-long (longRun (length m) k lines s) m g ∙ e in
+          rw (long-whole (length m) (k + n) lines s e)
+          (full-lunch k n lines s m (rw (long-whole (length m) k lines s e) at g) made
+          ∙ ap (added (q .steps)) (rw (long-whole (length m′) n lines (q .machine) f) at h))
+      by-size (no f) = absurd (not-made-short (ap (λ (w : Ended × List ℕ). w .0 .reason) (sym (long-short (length m) k lines s m f) ∙ g) ∙ made))
+
+  pub long-stopped-before-lunch : (q .reason ≡ Made → ⊥) → Gives (longRun (length m) (k + n) lines s) m q m′
+  long-stopped-before-lunch f = by-size (ℕ-discrete (length m) fullMemory)
+    where
+      by-size : Dec (length m ≡ fullMemory) → Gives (longRun (length m) (k + n) lines s) m q m′
+      by-size (yes e) = rw (long-whole (length m) (k + n) lines s e) (full-stopped k n lines s m (rw (long-whole (length m) k lines s e) at g) f)
+      by-size (no f) = long-short (length m) (k + n) lines s m f ∙ sym (long-short (length m) k lines s m f) ∙ g

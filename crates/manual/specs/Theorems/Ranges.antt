@@ -19,15 +19,15 @@ use Rattle.instruction.specs.declared.Decoded.{Decoded}
 use Rattle.instruction.specs.declared.Decoded.the-variants.{Defined, Undefined}
 use Rattle.instruction.specs.Modes.{operandBytes}
 use Rattle.instruction.specs.Opcodes.{decoded}
-use Rattle.instruction.specs.Table.{mostExtra, Ruled, ruled}
+use Rattle.instruction.specs.Table.{mostExtra, Ruled, table-rules}
 use Rattle.manual.specs.declared.Lines.{Lines}
 use Rattle.manual.specs.declared.Machine.{Machine}
 use Rattle.manual.specs.declared.Due.{Due}
 use Rattle.manual.specs.declared.Due.the-variants.{Through, Quiet}
 use Rattle.manual.specs.declared.Target.{Target}
 use Rattle.manual.specs.declared.Effect.{Effect}
-use Rattle.manual.specs.Micro.{done, exec}
-use Rattle.manual.specs.Words.{low, address, page}
+use Rattle.manual.specs.Micro.{Micro, done, exec}
+use Rattle.manual.specs.Words.{lowByte, addressOf, page}
 use Rattle.manual.specs.Branching.{branchTarget, branched, holds}
 use Rattle.manual.specs.Addressing.{operand, target}
 use Rattle.manual.specs.Stack.{push, pull, pushAddress, pullAddress}
@@ -37,9 +37,10 @@ use Rattle.manual.specs.declared.Stepped.{Stepped}
 use Rattle.manual.specs.declared.Ended.{Ended}
 use Rattle.manual.specs.declared.Reason.{Reason}
 use Rattle.manual.specs.Outcomes.{isMade, ended}
-use Rattle.manual.specs.Stepping.{fullMemory, highestCount, highestBound, act, attend, stepFull, step, runFull, run}
+use Rattle.manual.specs.Stepping.{fullMemory, highestCount, highestBound, act, attend, stepFull, step, runWhile, onFull, bounded, runFull, run, longRun, spendFull, runCycles}
 use Rattle.manual.specs.Theorems.Within.{Within, Bytes, InMemory, within-exec, within-bind, within-weaken, within-memory}
-use Rattle.manual.specs.Theorems.RegistersInRange.{InRange, in-setA, in-setS, in-setPC, in-setStatus, in-flags, in-advanced, in-loadA, in-taken, in-stored, in-modified, in-modified-flags, in-internal, in-around}
+use Rattle.registers.specs.InRange.{InRange}
+use Rattle.manual.specs.Theorems.RegistersInRange.{in-setA, in-setS, in-setPC, in-setStatus, in-flags, in-advanced, in-loadA, in-applied, in-stored, in-modified, in-modified-flags, in-internal, in-around}
 use Rattle.manual.specs.Theorems.Programs.{either}
 use Rattle.manual.specs.Theorems.Answers.{not-quiet}
 
@@ -77,7 +78,7 @@ pull-within r h = (omega arith, λ b l. (l, in-setS r h _ (omega arith)))
 push-address-within : (p : ℕ) (r : Registers) → p < 65536 → InRange r → Within InRange (pushAddress p r)
 unfolding pushAddress
 push-address-within p r l h =
-    within-bind InRange InRange (push (page p) r) _ (push-within (page p) r (omega arith) h) (λ r₁ h₁. push-within (low p) r₁ (omega arith) h₁)
+    within-bind InRange InRange (push (page p) r) _ (push-within (page p) r (omega arith) h) (λ r₁ h₁. push-within (lowByte p) r₁ (omega arith) h₁)
 
 pull-address-within : (r : Registers) → InRange r → Within (Pulled 65536) (pullAddress r)
 unfolding pullAddress
@@ -119,7 +120,7 @@ perform-within : (i : Instruction) (mode : AddressingMode) (r : Registers) → I
 unfolding perform
 perform-within (Read k) mode r h =
     within-bind Aimed (Ranged 1) (target mode r) _ (target-within mode r h)
-    (λ t l. (l .0, λ b j. (in-taken k b _ (in-advanced r h mode) j, bit-most (t .crossed), l .1)))
+    (λ t l. (l .0, λ b j. (in-applied k b _ (in-advanced r h mode) j, bit-most (t .crossed), l .1)))
 perform-within (Store k) mode r h =
     within-bind Aimed (Ranged 0) (target mode r) _ (target-within mode r h)
     (λ t l. (l .0, in-stored k r h, (in-advanced r h mode, lit≤ tt, l .1)))
@@ -162,7 +163,7 @@ perform-within RTI mode r h =
 -- ---- a step and a run
 
 -- registers in range, and a cycle count at most so many on from another
-pub record Kept (from most : ℕ) (s : Machine) : Type 0 where
+pub record MachineInRange (from most : ℕ) (s : Machine) : Type 0 where
   pub registers : InRange (s .registers)
   pub cycles : s .cycles ≤ from + most
 
@@ -170,29 +171,29 @@ pub record Kept (from most : ℕ) (s : Machine) : Type 0 where
 abbrev pub allowance : Reason → ℕ
 allowance reason = cond (isMade reason) 7 0
 
-abbrev pub StepKept : ℕ → Stepped → Type 0
-StepKept from q = Kept from (allowance (q .reason)) (q .machine) × (q .first < 65536)
+abbrev pub StepInRange : ℕ → Stepped → Type 0
+StepInRange from q = MachineInRange from (allowance (q .reason)) (q .machine) × (q .first < 65536)
 
-unmoved : (from : ℕ) (s : Machine) → InRange (s .registers) → s .cycles ≤ from → Kept from 0 s × (0 < 65536)
+unmoved : (from : ℕ) (s : Machine) → InRange (s .registers) → s .cycles ≤ from → MachineInRange from 0 s × (0 < 65536)
 unmoved from s h l = (record { registers = h; cycles = omega arith }, lit< tt)
 
 act-within : (d : Decoded) (lines : Lines) (s : Machine) → InRange (s .registers)
     → ((e : Entry) → d ≡ Defined e → Ruled e)
-    → Within (StepKept (s .cycles)) (act d lines s)
+    → Within (StepInRange (s .cycles)) (act d lines s)
 unfolding act
 act-within (Defined e) lines s h c =
-    within-bind (Ranged (mostExtra (e .instruction))) (StepKept (s .cycles)) (perform (e .instruction) (e .mode) (s .registers)) _
+    within-bind (Ranged (mostExtra (e .instruction))) (StepInRange (s .cycles)) (perform (e .instruction) (e .mode) (s .registers)) _
     (perform-within (e .instruction) (e .mode) (s .registers) h)
     (λ f l. (record { registers = l .0; cycles = omega (arith, l .1, c e refl .total-most) }, l .2))
 act-within Undefined lines s h c = unmoved (s .cycles) s h (omega arith)
 
 attend-within : (d : Due) (lines : Lines) (s : Machine) → InRange (s .registers) → ((vector : ℕ) → d ≡ Through vector → vector + 1 < 65536)
-    → Within (StepKept (s .cycles)) (attend d lines s)
+    → Within (StepInRange (s .cycles)) (attend d lines s)
 unfolding attend
 attend-within (Through vector) lines s h v =
-    within-bind InRange (StepKept (s .cycles)) (served vector (s .registers)) _ (served-within vector (s .registers) (v vector refl) h)
+    within-bind InRange (StepInRange (s .cycles)) (served vector (s .registers)) _ (served-within vector (s .registers) (v vector refl) h)
     (λ r l. (record { registers = l; cycles = omega arith }, lit< tt))
-attend-within Quiet lines s h v = (h .counter, λ b l. act-within (decoded b) lines s h (ruled b))
+attend-within Quiet lines s h v = (h .counter, λ b l. act-within (decoded b) lines s h (table-rules .ruled b))
 
 -- both vectors are of the memory
 pub vector-within : (lines : Lines) (s : Machine) (vector : ℕ) → due lines s ≡ Through vector → vector + 1 < 65536
@@ -210,56 +211,84 @@ vector-within lines s =
     low : (v w : ℕ) → Through w ≡ Through v → w + 1 < 65536 → v + 1 < 65536
     low v w e l = let same : w ≡ v = ap of e in omega arith
 
-step-full-within : (lines : Lines) (s : Machine) → InRange (s .registers) → Within (StepKept (s .cycles)) (stepFull lines s)
+step-full-within : (lines : Lines) (s : Machine) → InRange (s .registers) → Within (StepInRange (s .cycles)) (stepFull lines s)
 unfolding stepFull
 step-full-within lines s h =
-    either (Within (StepKept (s .cycles))) (ltb highestCount (s .cycles)) _ _
+    either (Within (StepInRange (s .cycles))) (ltb highestCount (s .cycles)) _ _
     (unmoved (s .cycles) s h (omega arith))
     (attend-within (due lines s) lines s h (vector-within lines s))
 
-step-within : (size : ℕ) (lines : Lines) (s : Machine) → InRange (s .registers) → Within (StepKept (s .cycles)) (step size lines s)
+step-within : (size : ℕ) (lines : Lines) (s : Machine) → InRange (s .registers) → Within (StepInRange (s .cycles)) (step size lines s)
 unfolding step
-step-within size lines s h = either (Within (StepKept (s .cycles))) (eqb size fullMemory) _ _ (step-full-within lines s h) (unmoved (s .cycles) s h (omega arith))
+step-within size lines s h = either (Within (StepInRange (s .cycles))) (eqb size fullMemory) _ _ (step-full-within lines s h) (unmoved (s .cycles) s h (omega arith))
 
 -- A step from registers and bytes in range leaves them in range. It adds at most 7 to the cycle count, and nothing where it is refused.
 pub step-ranges : (size : ℕ) (lines : Lines) (s : Machine) (m : List ℕ) → InRange (s .registers) → Bytes m
-    → StepKept (s .cycles) (exec (step size lines s) m .0) × Bytes (exec (step size lines s) m .1)
-step-ranges size lines s m h b = within-exec (StepKept (s .cycles)) (step size lines s) m (step-within size lines s h) b
+    → StepInRange (s .cycles) (exec (step size lines s) m .0) × Bytes (exec (step size lines s) m .1)
+step-ranges size lines s m h b = within-exec (StepInRange (s .cycles)) (step size lines s) m (step-within size lines s h) b
 
 -- registers in range, and at most 7 cycles for each of the steps made after k
-abbrev pub RunKept : ℕ → ℕ → Ended → Type 0
-RunKept from k q = InRange (q .machine .registers) × (q .machine .cycles + 7 * k ≤ from + 7 * q .steps)
+abbrev pub RunInRange : ℕ → ℕ → Ended → Type 0
+RunInRange from k q = InRange (q .machine .registers) × (q .machine .cycles + 7 * k ≤ from + 7 * q .steps)
 
-run-full-within : (n k : ℕ) (lines : Lines) (s : Machine) → InRange (s .registers) → Within (RunKept (s .cycles) k) (runFull n k lines s)
-unfolding runFull
-run-full-within zero k lines s h = (h, omega arith)
-run-full-within (suc n) k lines s h =
-    within-bind (StepKept (s .cycles)) (RunKept (s .cycles) k) (stepFull lines s) _ (step-full-within lines s h)
-    (λ q l. go (isMade (q .reason)) (q .reason) (q .machine) (l .0) (run-full-within n (k + 1) lines (q .machine) (l .0 .registers)))
+while-within : (goes : Machine → Bool) (n k : ℕ) (lines : Lines) (s : Machine) → InRange (s .registers)
+    → Within (RunInRange (s .cycles) k) (runWhile goes n k lines s)
+unfolding runWhile
+while-within goes zero k lines s h = (h, omega arith)
+while-within goes (suc n) k lines s h =
+    either (Within (RunInRange (s .cycles) k)) (goes s) _ _
+    (within-bind (StepInRange (s .cycles)) (RunInRange (s .cycles) k) (stepFull lines s) _ (step-full-within lines s h)
+    (λ q l. go (isMade (q .reason)) (q .reason) (q .machine) (l .0) (while-within goes n (k + 1) lines (q .machine) (l .0 .registers))))
+    (h, omega arith)
   where
-    go : (t : Bool) (a : Reason) (q : Machine) → Kept (s .cycles) (cond t 7 0) q → Within (RunKept (q .cycles) (k + 1)) (runFull n (k + 1) lines q)
-        → Within (RunKept (s .cycles) k) (cond t (runFull n (k + 1) lines q) (done (ended a k q)))
+    go : (t : Bool) (a : Reason) (q : Machine) → MachineInRange (s .cycles) (cond t 7 0) q → Within (RunInRange (q .cycles) (k + 1)) (runWhile goes n (k + 1) lines q)
+        → Within (RunInRange (s .cycles) k) (cond t (runWhile goes n (k + 1) lines q) (done (ended a k q)))
     go true a q l w =
-        within-weaken (RunKept (q .cycles) (k + 1)) (RunKept (s .cycles) k) (runFull n (k + 1) lines q)
+        within-weaken (RunInRange (q .cycles) (k + 1)) (RunInRange (s .cycles) k) (runWhile goes n (k + 1) lines q)
         (λ f g. (g .0, omega (arith, g .1, l .cycles)))
         w
     go false a q l w = (l .registers, omega (arith, l .cycles))
 
-run-within : (size bound : ℕ) (lines : Lines) (s : Machine) → InRange (s .registers) → Within (RunKept (s .cycles) 0) (run size bound lines s)
-unfolding run
-run-within size bound lines s h =
-    either (Within (RunKept (s .cycles) 0)) (eqb size fullMemory) _ _
-    (either (Within (RunKept (s .cycles) 0)) (leb bound highestBound) _ _ (run-full-within bound 0 lines s h) (h, omega arith))
-    (h, omega arith)
+module _ (s : Machine) (h : InRange (s .registers)) (p : Micro Ended) (w : Within (RunInRange (s .cycles) 0) p) where
+  on-full-within : (size : ℕ) → Within (RunInRange (s .cycles) 0) (onFull size s p)
+  on-full-within size = either (Within (RunInRange (s .cycles) 0)) (eqb size fullMemory) _ _ w (h, omega arith)
 
--- A run does the same, and adds at most 7 cycles for each step that it made.
-pub run-ranges : (size bound : ℕ) (lines : Lines) (s : Machine) (m : List ℕ) → InRange (s .registers) → Bytes m
-    → RunKept (s .cycles) 0 (exec (run size bound lines s) m .0) × Bytes (exec (run size bound lines s) m .1)
-run-ranges size bound lines s m h b = within-exec (RunKept (s .cycles) 0) (run size bound lines s) m (run-within size bound lines s h) b
+  bounded-within : (bound : ℕ) → Within (RunInRange (s .cycles) 0) (bounded bound s p)
+  bounded-within bound = either (Within (RunInRange (s .cycles) 0)) (leb bound highestBound) _ _ w (h, omega arith)
 
--- Every address that a step reads or stores to is one of the memory's, and so is every one of a run.
+module _ (size bound : ℕ) (lines : Lines) (s : Machine) (m : List ℕ) (h : InRange (s .registers)) (b : Bytes m) where
+  run-within : Within (RunInRange (s .cycles) 0) (run size bound lines s)
+  unfolding run runFull
+  run-within = on-full-within s h _ (bounded-within s h _ (while-within (λ s. true) bound 0 lines s h) bound) size
+
+  long-run-within : Within (RunInRange (s .cycles) 0) (longRun size bound lines s)
+  unfolding longRun runFull
+  long-run-within = on-full-within s h _ (while-within (λ s. true) bound 0 lines s h) size
+
+  run-cycles-within : Within (RunInRange (s .cycles) 0) (runCycles size bound lines s)
+  unfolding runCycles spendFull
+  run-cycles-within = on-full-within s h _ (bounded-within s h _ (while-within (λ t. ltb (t .cycles) (s .cycles + bound)) bound 0 lines s h) bound) size
+
+  -- A run does the same, and adds at most 7 cycles for each step that it made; so do one of any number of steps and one by cycles.
+  pub run-ranges : RunInRange (s .cycles) 0 (exec (run size bound lines s) m .0) × Bytes (exec (run size bound lines s) m .1)
+  run-ranges = within-exec (RunInRange (s .cycles) 0) (run size bound lines s) m run-within b
+
+  pub long-run-ranges : RunInRange (s .cycles) 0 (exec (longRun size bound lines s) m .0) × Bytes (exec (longRun size bound lines s) m .1)
+  long-run-ranges = within-exec (RunInRange (s .cycles) 0) (longRun size bound lines s) m long-run-within b
+
+  pub run-cycles-ranges : RunInRange (s .cycles) 0 (exec (runCycles size bound lines s) m .0) × Bytes (exec (runCycles size bound lines s) m .1)
+  run-cycles-ranges = within-exec (RunInRange (s .cycles) 0) (runCycles size bound lines s) m run-cycles-within b
+
+  -- Every address that a run reads or stores to is one of the memory's.
+  pub run-in-memory : InMemory (run size bound lines s) m
+  run-in-memory = within-memory (RunInRange (s .cycles) 0) (run size bound lines s) m run-within b
+
+  pub long-run-in-memory : InMemory (longRun size bound lines s) m
+  long-run-in-memory = within-memory (RunInRange (s .cycles) 0) (longRun size bound lines s) m long-run-within b
+
+  pub run-cycles-in-memory : InMemory (runCycles size bound lines s) m
+  run-cycles-in-memory = within-memory (RunInRange (s .cycles) 0) (runCycles size bound lines s) m run-cycles-within b
+
+-- Every address that a step reads or stores to is one of the memory's.
 pub step-in-memory : (size : ℕ) (lines : Lines) (s : Machine) (m : List ℕ) → InRange (s .registers) → Bytes m → InMemory (step size lines s) m
-step-in-memory size lines s m h b = within-memory (StepKept (s .cycles)) (step size lines s) m (step-within size lines s h) b
-
-pub run-in-memory : (size bound : ℕ) (lines : Lines) (s : Machine) (m : List ℕ) → InRange (s .registers) → Bytes m → InMemory (run size bound lines s) m
-run-in-memory size bound lines s m h b = within-memory (RunKept (s .cycles) 0) (run size bound lines s) m (run-within size bound lines s h) b
+step-in-memory size lines s m h b = within-memory (StepInRange (s .cycles)) (step size lines s) m (step-within size lines s h) b

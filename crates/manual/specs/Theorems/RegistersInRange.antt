@@ -6,6 +6,7 @@ use lib.Bits.{and-le-l, or-lt, xor-lt}
 use lib.IntN.{ℤ, pos, negsuc}
 use Rattle.registers.specs.declared.Registers.{Registers}
 use Rattle.registers.specs.declared.Status.{Status}
+use Rattle.registers.specs.InRange.{InRange}
 use Rattle.registers.specs.RoundTrip.{bit-most}
 use Rattle.instruction.specs.declared.ReadOperation.{ReadOperation}
 use Rattle.instruction.specs.declared.ReadOperation.the-variants.{ADC, AND, BIT, CMP, CPX, CPY, EOR, LDA, LDX, LDY, ORA, SBC}
@@ -20,24 +21,16 @@ use Rattle.instruction.specs.Modes.{operandBytes}
 use Rattle.manual.specs.declared.ArithmeticOutput.{ArithmeticOutput}
 use Rattle.manual.specs.Words.{around}
 use Rattle.registers.specs.State.{setA, setX, setY, setS, setPC, setStatus, flags}
-use Rattle.manual.specs.Flags.{shown}
+use Rattle.manual.specs.Flags.{shown, loadA, loadX, loadY}
 use Rattle.manual.specs.Arithmetic.{binarySum, binaryDifference}
-use Rattle.manual.specs.Decimal.{decimalSum, decimalDifference}
+use Rattle.manual.specs.Decimal.{rustSum, rustDifference}
 use Rattle.manual.specs.Branching.{compared, tested}
 use Rattle.manual.specs.Addressing.{operand}
-use Rattle.manual.specs.IndexRegisters.{loadA, loadX, loadY, internal}
+use Rattle.manual.specs.Internal.{internal}
 use Rattle.manual.specs.Shifting.{modified, modifiedFlags}
-use Rattle.manual.specs.Instructions.{sum, difference, withOutput, taken, stored, advanced}
+use Rattle.manual.specs.Instructions.{sum, difference, withOutput, applied, stored, advanced}
 use Rattle.manual.specs.Theorems.Programs.{either}
-use Rattle.manual.specs.Theorems.InstructionLaws.{output-loaded}
-
--- registers in range
-pub record InRange (r : Registers) : Type 0 where
-  pub accumulator : r .accumulator < 256
-  pub x : r .x < 256
-  pub y : r .y < 256
-  pub stack : r .stack .0 < 256
-  pub counter : r .counter < 65536
+use Rattle.manual.specs.Theorems.DecimalDigits.{sum-by-digits, difference-by-digits}
 
 module _ (r : Registers) (h : InRange r) where
   pub in-setA : (b : ℕ) → b < 256 → InRange (setA b r)
@@ -86,34 +79,38 @@ module _ (r : Registers) (h : InRange r) (b : ℕ) (l : b < 256) where
   in-loadY = in-shown (setY b r) (in-setY r h b l) b
 
 pub in-sum : (m : ℕ) (r : Registers) → sum m r .result < 256
-unfolding sum binarySum decimalSum
-in-sum m r = either (λ (o : ArithmeticOutput). o .result < 256) (r .status .decimal) _ _ (omega arith) (omega arith)
+unfolding sum binarySum rustSum
+in-sum m r =
+    either (λ (o : ArithmeticOutput). o .result < 256) (r .status .decimal) _ _ (rw (sum-by-digits (r .accumulator) m) (omega arith)) (omega arith)
 
 pub in-difference : (m : ℕ) (r : Registers) → difference m r .result < 256
-unfolding difference binaryDifference decimalDifference
-in-difference m r = either (λ (o : ArithmeticOutput). o .result < 256) (r .status .decimal) _ _ (omega arith) (omega arith)
+unfolding difference binaryDifference rustDifference
+in-difference m r =
+    either (λ (o : ArithmeticOutput). o .result < 256) (r .status .decimal) _ _
+    (rw (difference-by-digits (r .accumulator) m) (omega arith)) (omega arith)
 
 pub in-output : (o : ArithmeticOutput) (r : Registers) → InRange r → o .result < 256 → InRange (withOutput o r)
-in-output o r h l = rw (output-loaded o r) (in-loadA _ (in-flags r h _) (o .result) l)
+unfolding withOutput
+in-output o r h l = in-loadA _ (in-flags r h _) (o .result) l
 
 pub in-compared : (register m : ℕ) (r : Registers) → InRange r → InRange (compared register m r)
 unfolding compared
 in-compared register m r h = in-shown _ (in-flags r h _) _
 
-pub in-taken : (k : ReadOperation) (m : ℕ) (r : Registers) → InRange r → m < 256 → InRange (taken k m r)
-unfolding taken tested
-in-taken ADC m r h l = in-output (sum m r) r h (in-sum m r)
-in-taken SBC m r h l = in-output (difference m r) r h (in-difference m r)
-in-taken AND m r h l = in-loadA r h _ (omega (arith, and-le-l (r .accumulator) m, h .accumulator))
-in-taken ORA m r h l = in-loadA r h _ (or-lt 8 (r .accumulator) m (h .accumulator) l)
-in-taken EOR m r h l = in-loadA r h _ (xor-lt 8 (r .accumulator) m (h .accumulator) l)
-in-taken LDA m r h l = in-loadA r h m l
-in-taken LDX m r h l = in-loadX r h m l
-in-taken LDY m r h l = in-loadY r h m l
-in-taken CMP m r h l = in-compared (r .accumulator) m r h
-in-taken CPX m r h l = in-compared (r .x) m r h
-in-taken CPY m r h l = in-compared (r .y) m r h
-in-taken BIT m r h l = in-flags r h _
+pub in-applied : (k : ReadOperation) (m : ℕ) (r : Registers) → InRange r → m < 256 → InRange (applied k m r)
+unfolding applied tested
+in-applied ADC m r h l = in-output (sum m r) r h (in-sum m r)
+in-applied SBC m r h l = in-output (difference m r) r h (in-difference m r)
+in-applied AND m r h l = in-loadA r h _ (omega (arith, and-le-l (r .accumulator) m, h .accumulator))
+in-applied ORA m r h l = in-loadA r h _ (or-lt 8 (r .accumulator) m (h .accumulator) l)
+in-applied EOR m r h l = in-loadA r h _ (xor-lt 8 (r .accumulator) m (h .accumulator) l)
+in-applied LDA m r h l = in-loadA r h m l
+in-applied LDX m r h l = in-loadX r h m l
+in-applied LDY m r h l = in-loadY r h m l
+in-applied CMP m r h l = in-compared (r .accumulator) m r h
+in-applied CPX m r h l = in-compared (r .x) m r h
+in-applied CPY m r h l = in-compared (r .y) m r h
+in-applied BIT m r h l = in-flags r h _
 
 pub in-stored : (k : StoreOperation) (r : Registers) → InRange r → stored k r < 256
 in-stored STA r h = h .accumulator

@@ -13,8 +13,8 @@ use Rattle.manual.specs.declared.Reason.{Reason}
 use Rattle.manual.specs.declared.Reason.the-variants.{Made, MemoryNotFull, NoCycleRoom, NotAnOpcode, BoundTooHigh}
 use Rattle.manual.specs.Micro.{exec, Gives}
 use Rattle.manual.specs.Outcomes.{refused, ended}
-use Rattle.manual.specs.Stepping.{fullMemory, highestBound, stepFull, runFull, run}
-use Rattle.manual.specs.Theorems.StepLaws.{step-late, step-serves, step-undefined, step-defined, run-short, run-long, run-whole, run-end, run-more, run-stop}
+use Rattle.manual.specs.Stepping.{fullMemory, highestBound, stepFull, runFull, run, longRun}
+use Rattle.manual.specs.Theorems.StepLaws.{step-late, step-serves, step-undefined, step-defined, run-short, run-long, run-whole, long-short, long-whole, run-end, run-more, run-stop}
 use Rattle.manual.specs.Theorems.Answers.{NoRoom, NoOpcode, Way, late, serves, undefined, ready, way}
 
 -- k steps of the definition, each of them made, lead from the machine s and the memory m to s′ and m′
@@ -143,3 +143,20 @@ run-answers size bound lines s m = (given, gives)
 
     given : {q : Ended} {m′ : List ℕ} → Gives (run size bound lines s) m q m′ → RunTable size bound lines s m q m′
     given g = memory (ℕ-discrete size fullMemory) g
+
+-- The table of a run of any number of steps: as that of a run, but for 4.
+pub data LongTable (size bound : ℕ) (lines : Lines) (s : Machine) (m : List ℕ) : Ended → List ℕ → Type 0 where
+  long-ran : {q : Ended} {m′ : List ℕ} → size ≡ fullMemory → Ends bound lines s m q m′ → LongTable size bound lines s m q m′
+  long-not-full : (size ≡ fullMemory → ⊥) → LongTable size bound lines s m (ended MemoryNotFull 0 s) m
+
+pub long-run-answers : (size bound : ℕ) (lines : Lines) (s : Machine) (m : List ℕ) {q : Ended} {m′ : List ℕ}
+    → Gives (longRun size bound lines s) m q m′ ↔ LongTable size bound lines s m q m′
+long-run-answers size bound lines s m = (λ g. given (ℕ-discrete size fullMemory) g, gives)
+  where
+    gives : {q : Ended} {m′ : List ℕ} → LongTable size bound lines s m q m′ → Gives (longRun size bound lines s) m q m′
+    gives (long-ran e h) = rw (long-whole size bound lines s e) (ends-run bound lines s m h)
+    gives (long-not-full f) = long-short size bound lines s m f
+
+    given : {q : Ended} {m′ : List ℕ} → Dec (size ≡ fullMemory) → Gives (longRun size bound lines s) m q m′ → LongTable size bound lines s m q m′
+    given (yes e) g = long-ran e (run-ends bound lines s m (rw (long-whole size bound lines s e) at g))
+    given (no f) g = same (LongTable size bound lines s m) (long-short size bound lines s m f) (long-not-full f) g

@@ -1,61 +1,58 @@
 -- A run by cycles (P11): the answer table, in which nothing is said of the number that makes the definition end; how many cycles it spends
 -- and how many steps it makes; that it is a run of so many steps; the bytes that it reads, and demand 3.
 use Prim.Native.Nat.{ℕ, zero, suc, _+_, _*_, _/_, _≤_, _<_}
-use mathlib.Core.Path.{_≡_, refl, ap, ap₂, sym, _∙_, subst}
-use mathlib.Core.Logic.{_↔_, _⊎_, ⊎-elim}
-use mathlib.Core.Bool.{Bool, true, false, cond}
-use mathlib.Core.List.{List, [], _++_}
+use mathlib.Core.Path.{_≡_, refl, ap, sym, _∙_, subst}
+use mathlib.Core.Logic.{_↔_}
+use mathlib.Core.Bool.{Bool, cond}
+use mathlib.Core.List.{List, []}
 use native.Mathlib.Omega.{arith}
 use native.Mathlib.Decide.{decLt, ℕ-discrete}
-use borrow.Author.Tests.{le-leb, lt-leb, eq-eqb, ne-eqb}
-use lib.Dec.{eqb, leb}
+use borrow.Author.Tests.{le-leb, lt-leb, lt-ltb, le-ltb, eq-eqb, ne-eqb}
+use lib.Dec.{ltb}
 use lib.ListN.{length}
-use Rattle.instruction.specs.Table.{ruled}
+use Rattle.instruction.specs.Table.{table-rules}
 use Rattle.manual.specs.declared.Lines.{Lines}
 use Rattle.manual.specs.declared.Machine.{Machine}
 use Rattle.manual.specs.declared.Stepped.{Stepped}
 use Rattle.manual.specs.declared.Ended.{Ended}
 use Rattle.manual.specs.declared.Reason.{Reason}
 use Rattle.manual.specs.declared.Reason.the-variants.{Made, MemoryNotFull, NoCycleRoom, NotAnOpcode, BoundTooHigh}
-use Rattle.manual.specs.Micro.{Micro, done, exec, Access, accesses, reads, stores, _>>=_, Gives}
+use Rattle.manual.specs.Micro.{exec, accesses, reads, stores, Gives}
 use Rattle.manual.specs.Outcomes.{isMade, refused, ended}
-use Rattle.manual.specs.Stepping.{fullMemory, highestBound, stepFull, runFull, run}
-use Rattle.manual.specs.Spending.{spendFull, runCycles, listedSpendFull, listedRunCycles}
-use Rattle.manual.specs.Theorems.Programs.{exec-bind, accesses-bind, reads-bind, either, alike, exec-then}
-use Rattle.manual.specs.Theorems.StepLaws.{opcodeOf, step-late, step-serves, step-undefined, step-defined, run-whole, not-made}
+use Rattle.manual.specs.Stepping.{fullMemory, highestBound, stepFull, runWhile, run, spendFull, runCycles}
+use Rattle.manual.specs.ReadList.{listedRunCycles}
+use Rattle.manual.specs.Theorems.Programs.{either}
+use Rattle.manual.specs.Theorems.StepLaws.{opcodeOf, step-late, step-serves, step-undefined, step-defined, run-short, while-over, while-more, while-stop}
 use Rattle.manual.specs.Theorems.Answers.{NoRoom, NoOpcode, Way, late, serves, undefined, ready, way}
-use Rattle.manual.specs.Theorems.RunAnswers.{Leads, Allowed, same}
+use Rattle.manual.specs.Theorems.RunAnswers.{Leads, Ends, all-made, no-cycle-room as stopped-late, not-an-opcode as stopped-undefined, Allowed, ran as run-ran, run-answers, same}
 use Rattle.manual.specs.Theorems.Extra.{extra-of}
-use Rattle.manual.specs.Theorems.Reads.{step-full-reads}
+use Rattle.manual.specs.Theorems.Reads.{run-cycles-reads}
 use Rattle.manual.specs.Theorems.Sealed.{Differ, Unsealed, Kept, sealed}
-use Rattle.manual.specs.Theorems.Within.{Bytes, InMemory}
-use Rattle.manual.specs.Theorems.RegistersInRange.{InRange}
-use Rattle.manual.specs.Theorems.Ranges.{RunKept, run-ranges, run-in-memory}
 
 -- ---- the cycles of a step
 
 -- so many cycles on from a count: 2 to 7
-abbrev pub Taken : ℕ → Stepped → Type 0
-Taken from q = (from + 2 ≤ q .machine .cycles) × (q .machine .cycles ≤ from + 7)
+abbrev pub StepCycles : ℕ → Stepped → Type 0
+StepCycles from q = (from + 2 ≤ q .machine .cycles) × (q .machine .cycles ≤ from + 7)
 
 -- A step that is made takes 2 to 7 cycles.
 pub step-takes : (lines : Lines) (s : Machine) (m : List ℕ) {q : Stepped} {m′ : List ℕ} → Gives (stepFull lines s) m q m′ → q .reason ≡ Made
-    → Taken (s .cycles) q
+    → StepCycles (s .cycles) q
 step-takes lines s m g = go (way lines s m) g
   where
-    TakenIfMade : Stepped → List ℕ → Type 0
-    TakenIfMade q m′ = q .reason ≡ Made → Taken (s .cycles) q
+    IfMade : Stepped → List ℕ → Type 0
+    IfMade q m′ = q .reason ≡ Made → StepCycles (s .cycles) q
 
-    go : Way lines s m → {q : Stepped} {m′ : List ℕ} → Gives (stepFull lines s) m q m′ → TakenIfMade q m′
-    go (late h) g = same TakenIfMade (step-late lines s m h) (λ e. let z : _≡_ {A = ℕ} 0 1 = cc in absurd (omega arith)) g
+    go : Way lines s m → {q : Stepped} {m′ : List ℕ} → Gives (stepFull lines s) m q m′ → IfMade q m′
+    go (late h) g = same IfMade (step-late lines s m h) (λ e. let z : _≡_ {A = ℕ} 0 1 = cc in absurd (omega arith)) g
     go (undefined h) g =
-        same TakenIfMade (step-undefined lines s m (h .0) (h .1) (h .2)) (λ e. let z : _≡_ {A = ℕ} 0 1 = cc in absurd (omega arith)) g
-    go (serves h) g = same TakenIfMade (step-serves lines s m (h .1 .0) (h .0) (h .1 .1) refl) (λ e. (omega arith, omega arith)) g
+        same IfMade (step-undefined lines s m (h .0) (h .1) (h .2)) (λ e. let z : _≡_ {A = ℕ} 0 1 = cc in absurd (omega arith)) g
+    go (serves h) g = same IfMade (step-serves lines s m (h .1 .0) (h .0) (h .1 .1) refl) (λ e. (omega arith, omega arith)) g
     go (ready h) g =
         let entry = h .2 .0 in
-        let rules = ruled (opcodeOf s m) entry (h .2 .1) in
+        let rules = table-rules .ruled (opcodeOf s m) entry (h .2 .1) in
         let extra = extra-of (entry .instruction) (entry .mode) (s .registers) m refl in
-        same TakenIfMade (step-defined lines s m entry (h .0) (h .1) (h .2 .1) refl)
+        same IfMade (step-defined lines s m entry (h .0) (h .1) (h .2 .1) refl)
         (λ e. (omega (arith, rules .cycles-least), omega (arith, rules .total-most, extra)))
         g
 
@@ -88,21 +85,24 @@ pub data CycleTable (size limit : ℕ) (lines : Lines) (s : Machine) (m : List �
 
 -- ---- the definition, a step at a time
 
+-- the test of a run by cycles
+abbrev below : ℕ → Machine → Bool
+below until s = ltb (s .cycles) until
+
 pub spend-over : (n until k : ℕ) (lines : Lines) (s : Machine) (m : List ℕ) → until ≤ s .cycles → Gives (spendFull n until k lines s) m (ended Made k s) m
 unfolding spendFull
-spend-over zero until k lines s m h = refl
-spend-over (suc n) until k lines s m h = rw (le-leb _ _ h)
+spend-over n until k lines s m h = while-over (below until) n k lines s m (le-ltb _ _ h)
 
 module _ (lines : Lines) (s : Machine) (m : List ℕ) (q : Stepped) (m′ : List ℕ) (g : Gives (stepFull lines s) m q m′) where
   pub spend-more : (n until k : ℕ) → s .cycles < until → q .reason ≡ Made
       → exec (spendFull (suc n) until k lines s) m ≡ exec (spendFull n until (k + 1) lines (q .machine)) m′
   unfolding spendFull
-  spend-more n until k l h = rw (lt-leb _ _ l) (exec-then (stepFull lines s) _ m g ∙ rw h)
+  spend-more n until k l h = while-more (below until) lines s m q m′ g (lt-ltb _ _ l) n k h
 
   pub spend-refused : (n until k : ℕ) → s .cycles < until → (q .reason ≡ Made → ⊥)
       → Gives (spendFull (suc n) until k lines s) m (ended (q .reason) k (q .machine)) m′
   unfolding spendFull
-  spend-refused n until k l h = rw (lt-leb _ _ l) (exec-then (stepFull lines s) _ m g ∙ rw (not-made (q .reason) h))
+  spend-refused n until k l h = while-stop (below until) lines s m q m′ g (lt-ltb _ _ l) n k h
 
 -- ---- the steps that are made, each with its test
 
@@ -283,11 +283,11 @@ spread (suc k) until lines s m s′ m′ (q, m₁, l, g, made, h) =
       steps = λ z. go-steps (ℕ-discrete k 0) rest takes;
     }
   where
-    go-most : Dec (k ≡ 0) → Spread k until (q .machine) s′ → Taken (s .cycles) q → s′ .cycles ≤ until + 6
+    go-most : Dec (k ≡ 0) → Spread k until (q .machine) s′ → StepCycles (s .cycles) q → s′ .cycles ≤ until + 6
     go-most (yes e) rest takes = omega (arith, rest .none e, takes)
     go-most (no f) rest takes = rest .most (omega arith)
 
-    go-steps : Dec (k ≡ 0) → Spread k until (q .machine) s′ → Taken (s .cycles) q → s .cycles + 2 * suc k ≤ until + 1
+    go-steps : Dec (k ≡ 0) → Spread k until (q .machine) s′ → StepCycles (s .cycles) q → s .cycles + 2 * suc k ≤ until + 1
     go-steps (yes e) rest takes = omega arith
     go-steps (no f) rest takes = let most = rest .steps (omega arith) in omega (arith, takes)
 
@@ -339,155 +339,32 @@ module _ (size limit : ℕ) (lines : Lines) (s : Machine) (m : List ℕ) where
 
 -- ---- a run of so many steps
 
--- two programs that give the same on a memory, and do the same with it
-pub record Alike {A : Type 0} (p q : Micro A) (m : List ℕ) : Type 0 where
-  pub results : exec p m ≡ exec q m
-  pub doings : accesses p m ≡ accesses q m
-
-alike-then : {A B : Type 0} (p : Micro A) (f g : A → Micro B) (m : List ℕ)
-    → Alike (f (exec p m .0)) (g (exec p m .0)) (exec p m .1) → Alike (p >>= f) (p >>= g) m
-alike-then p f g m h = record {
-  results = exec-bind p f m ∙ h .results ∙ sym (exec-bind p g m);
-  doings = accesses-bind p f m ∙ ap (λ (l : List Access). accesses p m ++ l) (h .doings) ∙ sym (accesses-bind p g m);
-}
-
 -- the steps that are tried: those that are made, and a refused one
 abbrev pub tried : Ended → ℕ
 tried q = cond (isMade (q .reason)) (q .steps) (q .steps + 1)
 
--- they are as many for every count at the start
-abbrev tries : ℕ → ℕ → Lines → Machine → List ℕ → ℕ
-tries zero until lines s m = 0
-tries (suc n) until lines s m =
-    let w = exec (stepFull lines s) m in
-    cond (leb until (s .cycles)) 0 (suc (cond (isMade (w .0 .reason)) (tries n until lines (w .0 .machine) (w .1)) 0))
-
-spend-runs : (n until k : ℕ) (lines : Lines) (s : Machine) (m : List ℕ) → Alike (spendFull n until k lines s) (runFull (tries n until lines s m) k lines s) m
-unfolding spendFull runFull accesses
-spend-runs zero until k lines s m = record { results = refl; doings = refl }
-spend-runs (suc n) until k lines s m =
-    let w = exec (stepFull lines s) m in
-    let b = tries n until lines (w .0 .machine) (w .1) in
-    over (leb until (s .cycles)) _ (cond (isMade (w .0 .reason)) b 0)
-    (alike-then (stepFull lines s) _ _ m (next (isMade (w .0 .reason)) (w .0) (w .1) b (spend-runs n until (k + 1) lines (w .0 .machine) (w .1))))
-  where
-    over : (t : Bool) (p : Micro Ended) (b : ℕ) → Alike p (runFull (suc b) k lines s) m
-        → Alike (cond t (done (ended Made k s)) p) (runFull (cond t 0 (suc b)) k lines s) m
-    over true p b h = record { results = refl; doings = refl }
-    over false p b h = h
-
-    next : (t : Bool) (q : Stepped) (e : List ℕ) (b : ℕ) → Alike (spendFull n until (k + 1) lines (q .machine)) (runFull b (k + 1) lines (q .machine)) e
-        → Alike (cond t (spendFull n until (k + 1) lines (q .machine)) (done (ended (q .reason) k (q .machine))))
-        (cond t (runFull (cond t b 0) (k + 1) lines (q .machine)) (done (ended (q .reason) k (q .machine)))) e
-    next true q e b h = h
-    next false q e b h = record { results = refl; doings = refl }
-
--- what is tried is what the answer says
-tried-all : (n until k : ℕ) (lines : Lines) (s : Machine) (m : List ℕ) → tried (exec (spendFull n until k lines s) m .0) ≡ k + tries n until lines s m
-unfolding spendFull
-tried-all zero until k lines s m = omega arith
-tried-all (suc n) until k lines s m =
-    let w = exec (stepFull lines s) m in
-    let b = tries n until lines (w .0 .machine) (w .1) in
-    over (leb until (s .cycles)) _ (cond (isMade (w .0 .reason)) b 0)
-    (ap (λ (v : Ended × List ℕ). tried (v .0)) (exec-bind (stepFull lines s) _ m)
-    ∙ next (isMade (w .0 .reason)) (w .0) (w .1) b refl (tried-all n until (k + 1) lines (w .0 .machine) (w .1)))
-  where
-    over : (t : Bool) (p : Micro Ended) (b : ℕ) → tried (exec p m .0) ≡ k + suc b → tried (exec (cond t (done (ended Made k s)) p) m .0) ≡ k + cond t 0 (suc b)
-    over true p b h = omega arith
-    over false p b h = h
-
-    next : (t : Bool) (q : Stepped) (e : List ℕ) (b : ℕ) → isMade (q .reason) ≡ t → tried (exec (spendFull n until (k + 1) lines (q .machine)) e .0) ≡ k + 1 + b
-        → tried (exec (cond t (spendFull n until (k + 1) lines (q .machine)) (done (ended (q .reason) k (q .machine)))) e .0) ≡ k + suc (cond t b 0)
-    next true q e b r h = omega (arith, h)
-    next false q e b r h = rw r
-
 module _ (size limit : ℕ) (lines : Lines) (s : Machine) (m : List ℕ) where
-  tried-most : {q : Ended} {m′ : List ℕ} → limit ≤ highestBound → Spends (s .cycles + limit) lines s m q m′ → tried q ≤ highestBound
-  tried-most a (ends {k} {s′} {m′} led b stop) =
-      by-stop stop (spread k (s .cycles + limit) lines s m s′ m′ (under k (s .cycles + limit) lines s m s′ m′ led b) .least)
-      (run-cycles-counts 65536 limit lines s m (run-cycles-answers 65536 limit lines s m .1 (ran (refl, a) (ends led b stop))) .steps-most)
-    where
-      by-stop : {r : Reason} → Stops (s .cycles + limit) lines s′ m′ r → s .cycles + 2 * k ≤ s′ .cycles → k ≤ (limit + 1) / 2 → tried (ended r k s′) ≤ highestBound
-      by-stop (spent h) least most = omega arith
-      by-stop (no-cycle-room l h) least most = omega arith
-      by-stop (not-an-opcode l h) least most = omega arith
+  so-many : {q : Ended} {m′ : List ℕ} → Spends (s .cycles + limit) lines s m q m′ → Ends (tried q) lines s m q m′
+  so-many (ends led b (spent h)) = all-made led
+  so-many (ends {k} led b (no-cycle-room l h)) = stopped-late {k = k} (omega arith) led h
+  so-many (ends {k} led b (not-an-opcode l h)) = stopped-undefined {k = k} (omega arith) led h
 
-  as-full : {q : Ended} {m′ : List ℕ} → Allowed size limit → tried q ≤ highestBound → Gives (runCycles size limit lines s) m q m′
-      → Alike (runCycles size limit lines s) (run size (tried q) lines s) m
-  as-full {q} a most g =
-      let whole = cycles-whole size limit lines s m (a .0) (a .1) in
-      let until = s .cycles + limit in
-      let told : tried (exec (spendFull limit until 0 lines s) m .0) ≡ tried q = ap (λ (w : Ended × List ℕ). tried (w .0)) (rw whole at g) in
-      let all : tries limit until lines s m ≡ tried q = omega (arith, tried-all limit until 0 lines s m) in
-      rw (whole, run-whole size (tried q) lines s (a .0) most, ← all) (spend-runs limit until 0 lines s m)
+  few-tried : (q : Ended) → q .steps ≤ (limit + 1) / 2 → limit ≤ highestBound → tried q ≤ highestBound
+  few-tried q h l = either (λ n. n ≤ highestBound) (isMade (q .reason)) (q .steps) (q .steps + 1) (omega arith) (omega arith)
 
-  not-full : (f : size ≡ fullMemory → ⊥) (bound : ℕ) → Alike (runCycles size limit lines s) (run size bound lines s) m
-  unfolding runCycles run
-  not-full f bound = rw (ne-eqb _ _ f) (record { results = refl; doings = refl })
-
-  by-answer : {q : Ended} {m′ : List ℕ} → limit ≤ highestBound → CycleTable size limit lines s m q m′
-      → Alike (runCycles size limit lines s) (run size (tried q) lines s) m
-  by-answer l (ran a h) = as-full a (tried-most l h) (run-cycles-answers size limit lines s m .1 (ran a h))
-  by-answer l (memory-not-full f) = not-full f 1
+  by-answer : {q : Ended} {m′ : List ℕ} → limit ≤ highestBound → CycleTable size limit lines s m q m′ → Gives (run size (tried q) lines s) m q m′
+  by-answer {q} l (ran a h) =
+      let counts = by-table size limit lines s m (ran a h) in
+      run-answers size (tried q) lines s m .1 (run-ran (a .0, few-tried q (counts .steps-most) l) (so-many h))
+  by-answer l (memory-not-full f) = run-short size 1 lines s m f
   by-answer l (limit-too-high e h) = absurd (omega arith)
 
-  -- A run by cycles is the run of the steps that it tried: it gives the same, and reads and stores to the same addresses in the same order.
+  -- A run by cycles gives what the run of the steps that it tried gives.
   pub as-run : {q : Ended} {m′ : List ℕ} → limit ≤ highestBound → Gives (runCycles size limit lines s) m q m′
-      → Alike (runCycles size limit lines s) (run size (tried q) lines s) m
+      → Gives (run size (tried q) lines s) m q m′
   as-run l g = by-answer l (run-cycles-answers size limit lines s m .0 g)
 
-  -- one with a higher limit does nothing
-  too-high : highestBound < limit → accesses (runCycles size limit lines s) m ≡ []
-  unfolding runCycles accesses
-  too-high l = rw (lt-leb _ _ l) (either (λ (p : Micro Ended). accesses p m ≡ []) (eqb size fullMemory) _ _ refl refl)
-
-  ranges-by-table : {q : Ended} {m′ : List ℕ} → InRange (s .registers) → Bytes m → CycleTable size limit lines s m q m′
-      → RunKept (s .cycles) 0 q × Bytes m′
-  ranges-by-table {q} {m′} h b (ran a e) =
-      let g = run-cycles-answers size limit lines s m .1 (ran a e) in
-      let w : Gives (run size (tried q) lines s) m q m′ = sym (as-run (a .1) g .results) ∙ g in
-      subst (λ (w : Ended × List ℕ). RunKept (s .cycles) 0 (w .0) × Bytes (w .1)) w (run-ranges size (tried q) lines s m h b)
-  ranges-by-table h b (memory-not-full f) = ((h, omega arith), b)
-  ranges-by-table h b (limit-too-high e l) = ((h, omega arith), b)
-
-  -- From registers and bytes in range it leaves them in range, and adds at most 7 cycles for each step that it made.
-  pub run-cycles-ranges : {q : Ended} {m′ : List ℕ} → InRange (s .registers) → Bytes m → Gives (runCycles size limit lines s) m q m′
-      → RunKept (s .cycles) 0 q × Bytes m′
-  run-cycles-ranges h b g = ranges-by-table h b (run-cycles-answers size limit lines s m .0 g)
-
-  -- Every address that it reads or stores to is one of the memory's.
-  pub run-cycles-in-memory : InRange (s .registers) → Bytes m → InMemory (runCycles size limit lines s) m
-  run-cycles-in-memory h b = by-limit (decLt highestBound limit)
-    where
-      by-limit : Dec (highestBound < limit) → InMemory (runCycles size limit lines s) m
-      by-limit (yes l) a i = let none = too-high l in absurd (⊎-elim (λ x. x) (λ x. x) (rw none at i))
-      by-limit (no n) a i =
-          let w = as-run (omega arith) refl in
-          run-in-memory size (tried (exec (runCycles size limit lines s) m .0)) lines s m h b a (rw (w .doings) at i)
-
--- ---- what is read, and demand 3
-
--- the program p reads l
-abbrev ReadsFrom : {A : Type 0} → List ℕ → Micro A → List ℕ → Type 0
-ReadsFrom m p l = reads p m ≡ l
-
-spend-full-reads : (n until k : ℕ) (lines : Lines) (s : Machine) (m : List ℕ) → reads (spendFull n until k lines s) m ≡ listedSpendFull n until lines s m
-unfolding accesses spendFull
-spend-full-reads zero until k lines s m = refl
-spend-full-reads (suc n) until k lines s m =
-    alike (ReadsFrom m) (leb until (s .cycles)) _ _ _ _ refl
-    (reads-bind (stepFull lines s) _ m
-    ∙ ap₂ (λ (l t : List ℕ). l ++ t) (step-full-reads lines s m)
-    (alike (ReadsFrom (exec (stepFull lines s) m .1)) (isMade (exec (stepFull lines s) m .0 .reason)) _ _ _ _ (spend-full-reads n until (k + 1) lines _ _) refl))
-
--- A run by cycles reads what the rules list.
-pub run-cycles-reads : (size limit : ℕ) (lines : Lines) (s : Machine) (m : List ℕ) → reads (runCycles size limit lines s) m ≡ listedRunCycles size limit lines s m
-unfolding accesses runCycles
-run-cycles-reads size limit lines s m =
-    alike (ReadsFrom m) (eqb size fullMemory) _ _ _ _
-    (alike (ReadsFrom m) (leb limit highestBound) _ _ _ _ (spend-full-reads limit (s .cycles + limit) 0 lines s m) refl)
-    refl
+-- ---- demand 3
 
 -- demand 3 of a run by cycles
 pub run-cycles-sealed : (Sealed : ℕ → Type 0) (limit : ℕ) (lines : Lines) (s : Machine) (m₁ m₂ : List ℕ) {q₁ q₂ : Ended} {e₁ e₂ : List ℕ}
@@ -514,9 +391,9 @@ module _ (lines : Lines) (s : Machine) (m : List ℕ) where
 
   -- A limit of 0 on a full memory answers 0 with 0 steps, whatever the count, and reads nothing.
   pub limit-0 : Gives (runCycles 65536 0 lines s) m (ended Made 0 s) m
-  unfolding runCycles spendFull
+  unfolding runCycles spendFull runWhile
   limit-0 = refl
 
   pub limit-0-reads : reads (runCycles 65536 0 lines s) m ≡ []
-  unfolding runCycles spendFull accesses
+  unfolding runCycles spendFull runWhile accesses
   limit-0-reads = refl

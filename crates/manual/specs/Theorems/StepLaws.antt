@@ -1,8 +1,9 @@
 -- What a step and a run give, by the tests that they make: the laws behind the answers, and those that the code's proofs cite.
-use Prim.Native.Nat.{ℕ, suc, _+_, _≤_, _<_}
+use Prim.Native.Nat.{ℕ, zero, suc, _+_, _≤_, _<_}
 use mathlib.Core.Path.{_≡_, refl, _∙_}
 use mathlib.Core.Bool.{Bool, true, false, _&&_}
 use mathlib.Core.List.{List}
+use native.Mathlib.Omega.{arith}
 use borrow.Author.Tests.{lt-ltb, le-ltb, le-leb, lt-leb, eq-eqb, ne-eqb}
 use lib.ListN.{getD}
 use Rattle.registers.specs.declared.Registers.{Registers}
@@ -22,7 +23,7 @@ use Rattle.manual.specs.Micro.{done, exec, Gives}
 use Rattle.manual.specs.Outcomes.{isMade, refused, ended}
 use Rattle.manual.specs.Interrupts.{nmiVector, irqVector, served, falls, calls, due}
 use Rattle.manual.specs.Instructions.{perform}
-use Rattle.manual.specs.Stepping.{fullMemory, highestCount, highestBound, made, act, attend, stepFull, step, runFull, run, longRun}
+use Rattle.manual.specs.Stepping.{fullMemory, highestCount, highestBound, made, act, attend, stepFull, step, runWhile, runFull, run, longRun}
 use Rattle.manual.specs.Theorems.Programs.{exec-then, then}
 
 -- the byte at the counter
@@ -132,11 +133,7 @@ pub long-whole : (size bound : ℕ) (lines : Lines) (s : Machine) → size ≡ f
 unfolding longRun
 long-whole size bound lines s e = simp (eq-eqb _ _ e)
 
-pub run-end : (k : ℕ) (lines : Lines) (s : Machine) (m : List ℕ) → Gives (runFull 0 k lines s) m (ended Made k s) m
-unfolding runFull
-run-end k lines s m = refl
-
--- a refusal is no step made
+-- a refusal is no step made, and `Made` is no refusal
 pub not-made : (r : Reason) → (r ≡ Made → ⊥) → isMade r ≡ false
 not-made Made f = absurd (f refl)
 not-made MemoryNotFull f = refl
@@ -144,11 +141,43 @@ not-made NoCycleRoom f = refl
 not-made NotAnOpcode f = refl
 not-made BoundTooHigh f = refl
 
+pub was-made : (r : Reason) → isMade r ≡ true → r ≡ Made
+was-made Made e = refl
+was-made MemoryNotFull e = let z : _≡_ {A = ℕ} 0 1 = cc in absurd (omega arith)
+was-made NoCycleRoom e = let z : _≡_ {A = ℕ} 0 1 = cc in absurd (omega arith)
+was-made NotAnOpcode e = let z : _≡_ {A = ℕ} 0 1 = cc in absurd (omega arith)
+was-made BoundTooHigh e = let z : _≡_ {A = ℕ} 0 1 = cc in absurd (omega arith)
+
+pub was-refused : (r : Reason) → isMade r ≡ false → r ≡ Made → ⊥
+was-refused r e p = let f : isMade Made ≡ false = rw p at e in let z : _≡_ {A = ℕ} 0 1 = cc in omega arith
+
+-- of a run with a test: over where the test fails, and otherwise a step more or its refusal
+pub while-over : (goes : Machine → Bool) (n k : ℕ) (lines : Lines) (s : Machine) (m : List ℕ) → goes s ≡ false
+    → Gives (runWhile goes n k lines s) m (ended Made k s) m
+unfolding runWhile
+while-over goes zero k lines s m h = refl
+while-over goes (suc n) k lines s m h = rw h
+
+module _ (goes : Machine → Bool) (lines : Lines) (s : Machine) (m : List ℕ) (q : Stepped) (m′ : List ℕ) (g : Gives (stepFull lines s) m q m′)
+    (t : goes s ≡ true) where
+  pub while-more : (n k : ℕ) → q .reason ≡ Made → exec (runWhile goes (suc n) k lines s) m ≡ exec (runWhile goes n (k + 1) lines (q .machine)) m′
+  unfolding runWhile
+  while-more n k h = rw t (exec-then (stepFull lines s) _ m g ∙ rw h)
+
+  pub while-stop : (n k : ℕ) → (q .reason ≡ Made → ⊥) → Gives (runWhile goes (suc n) k lines s) m (ended (q .reason) k (q .machine)) m′
+  unfolding runWhile
+  while-stop n k h = rw t (exec-then (stepFull lines s) _ m g ∙ rw (not-made (q .reason) h))
+
+-- of a run with none
+pub run-end : (k : ℕ) (lines : Lines) (s : Machine) (m : List ℕ) → Gives (runFull 0 k lines s) m (ended Made k s) m
+unfolding runFull runWhile
+run-end k lines s m = refl
+
 module _ (lines : Lines) (s : Machine) (m : List ℕ) (q : Stepped) (m′ : List ℕ) (g : Gives (stepFull lines s) m q m′) where
   pub run-more : (n k : ℕ) → q .reason ≡ Made → exec (runFull (suc n) k lines s) m ≡ exec (runFull n (k + 1) lines (q .machine)) m′
   unfolding runFull
-  run-more n k h = exec-then (stepFull lines s) _ m g ∙ rw h
+  run-more n k h = while-more (λ s. true) lines s m q m′ g refl n k h
 
   pub run-stop : (n k : ℕ) → (q .reason ≡ Made → ⊥) → Gives (runFull (suc n) k lines s) m (ended (q .reason) k (q .machine)) m′
   unfolding runFull
-  run-stop n k h = exec-then (stepFull lines s) _ m g ∙ rw (not-made (q .reason) h)
+  run-stop n k h = while-stop (λ s. true) lines s m q m′ g refl n k h

@@ -1,11 +1,11 @@
 -- The difference, as SBC leaves it.
 use borrow.Author.Needs.{needs}
-use Rattle.manual.specs.Instructions.{taken}
+use Rattle.manual.specs.Instructions.{applied}
 use Rattle.alu.proofs.read.subtract_with_carry.Statement.{statement}
 use Rattle.alu.proofs.read.subtract_with_carry.Tie as tie
 
 returns : tie.Need-returns
-unfolding taken
+unfolding applied
 returns c = rw (c .with-output .ensures, c .before .difference .ensures)
 
 pub subtract-with-carry-spec : {M : Type 1} → statement M

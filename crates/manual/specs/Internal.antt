@@ -1,21 +1,10 @@
--- Index registers and the other instructions that work on registers and flags alone (manual, chapter 7; chapter 3: flags; chapter 8: TXS, TSX).
-use Prim.Native.Nat.{ℕ}
+-- The instructions that work on registers and flags alone (manual, chapter 7: X and Y; chapter 3: the flags; chapter 8: TXS and TSX).
 use mathlib.Core.Bool.{true, false}
 use Rattle.registers.specs.declared.Registers.{Registers}
 use Rattle.instruction.specs.declared.InternalOperation.{InternalOperation}
 use Rattle.instruction.specs.declared.InternalOperation.the-variants.{CLC, CLD, CLI, CLV, DEX, DEY, INX, INY, NOP, SEC, SED, SEI, TAX, TAY, TSX, TXA, TXS, TYA}
-use Rattle.registers.specs.State.{setA, setX, setY, setS, setV, setD, setI, setC, flags, up, down}
-use Rattle.manual.specs.Flags.{shown}
-
--- a register takes a value, and N and Z show it
-abbrev pub loadA : ℕ → Registers → Registers
-loadA b r = shown b (setA b r)
-
-abbrev pub loadX : ℕ → Registers → Registers
-loadX b r = shown b (setX b r)
-
-abbrev pub loadY : ℕ → Registers → Registers
-loadY b r = shown b (setY b r)
+use Rattle.registers.specs.State.{setS, setV, setD, setI, setC, flags, up, down}
+use Rattle.manual.specs.Flags.{loadA, loadX, loadY}
 
 unfoldable pub internal : InternalOperation → Registers → Registers
 internal TAX r = loadX (r .accumulator) r

@@ -25,30 +25,30 @@ use Rattle.manual.specs.declared.Stepped.{Stepped}
 use Rattle.manual.specs.declared.Reason.{Reason}
 use Rattle.manual.specs.declared.Reason.the-variants.{NoCycleRoom}
 use Rattle.manual.specs.Micro.{Micro, done, exec, reads, Gives}
-use Rattle.manual.specs.Words.{low, page, joined}
+use Rattle.manual.specs.Words.{lowByte, page, joined}
 use Rattle.manual.specs.Outcomes.{leaves, machineOf, isMade, refused}
 use Rattle.manual.specs.Stack.{push, pull, pushAddress, pullAddress}
 use Rattle.manual.specs.Interrupts.{enter, served, idle, falls, calls, due}
 use Rattle.manual.specs.Instructions.{perform}
 use Rattle.manual.specs.Stepping.{highestCount, act, attend, stepFull}
 use Rattle.manual.specs.Theorems.Programs.{exec-bind}
-use Rattle.manual.specs.Theorems.StepLaws.{due-none, step-late, step-serves, step-undefined, step-defined}
+use Rattle.manual.specs.Theorems.StepLaws.{second-not, due-none, step-late, step-serves, step-undefined, step-defined}
 use Rattle.manual.specs.Theorems.Answers.{Served, Way, late, serves, undefined, ready, way}
 use Rattle.manual.specs.Theorems.RunAnswers.{Leads}
 use Rattle.manual.specs.Theorems.Reads.{step-full-reads}
-use Rattle.manual.specs.Theorems.RegistersInRange.{InRange}
+use Rattle.registers.specs.InRange.{InRange}
 
 -- ---- the last level of NMI
 
 level : Stepped × List ℕ → Bool
 level w = w .0 .machine .nmi
 
-was-made : Stepped × List ℕ → Bool
-was-made w = isMade (w .0 .reason)
+counted : Stepped × List ℕ → Bool
+counted w = isMade (w .0 .reason)
 
-by-way : (lines : Lines) (s : Machine) (m : List ℕ) → Way lines s m → was-made (exec (stepFull lines s) m) ≡ true
+by-way : (lines : Lines) (s : Machine) (m : List ℕ) → Way lines s m → counted (exec (stepFull lines s) m) ≡ true
     → level (exec (stepFull lines s) m) ≡ lines .nmi
-unfolding level was-made
+unfolding level counted
 by-way lines s m (late h) e =
     let z : false ≡ true = rw (step-late lines s m h) at e in let y : _≡_ {A = ℕ} 0 1 = cc in absurd (omega arith)
 by-way lines s m (serves h) e = ap level (step-serves lines s m (h .1 .0) (h .0) (h .1 .1) refl)
@@ -59,8 +59,8 @@ by-way lines s m (ready h) e = ap level (step-defined lines s m (h .2 .0) (h .0)
 -- A step that is made records the present level; a refused one leaves the machine as it was (`unchanged` of Answers).
 pub recorded : (lines : Lines) (s : Machine) (m : List ℕ) {q : Stepped} {m′ : List ℕ} → Gives (stepFull lines s) m q m′
     → isMade (q .reason) ≡ true → q .machine .nmi ≡ lines .nmi
-unfolding level was-made
-recorded lines s m g h = sym (ap level g) ∙ by-way lines s m (way lines s m) (ap was-made g ∙ h)
+unfolding level counted
+recorded lines s m g h = sym (ap level g) ∙ by-way lines s m (way lines s m) (ap counted g ∙ h)
 
 high-and-low : (high : Bool) → (high && not high) ≡ false
 high-and-low true = refl
@@ -90,21 +90,14 @@ quiet-step : (lines : Lines) (s : Machine) → due lines s ≡ Quiet → stepFul
 unfolding stepFull
 quiet-step lines s e = rw e
 
-never-low : (high : Bool) → (high && false) ≡ false
-never-low true = refl
-never-low false = refl
-
 -- With idle lines every step is so, whatever I is.
 pub idle-step : (s : Machine) → stepFull idle s ≡ opcodeStep idle s
-idle-step s = quiet-step idle s (due-none idle s (never-low (s .nmi)) refl)
-
-second-not : (a b : Bool) → b ≡ true → (a && not b) ≡ false
-second-not a b e = rw e (never-low a)
+idle-step s = quiet-step idle s (due-none idle s (second-not (s .nmi) false refl) refl)
 
 -- And with IRQ low and I set, where NMI does not fall.
 pub masked-step : (lines : Lines) (s : Machine) → falls lines s ≡ false → s .registers .status .disable ≡ true
     → stepFull lines s ≡ opcodeStep lines s
-masked-step lines s f i = quiet-step lines s (due-none lines s f (second-not (not (lines .irq)) (s .registers .status .disable) i))
+masked-step lines s f i = quiet-step lines s (due-none lines s f (second-not (not (lines .irq)) _ (ap not i)))
 
 -- all but the level
 abbrev pub unlevelled : Stepped × List ℕ → Reason × ℕ × Registers × ℕ × List ℕ
@@ -171,7 +164,7 @@ module _ (vector : ℕ) (r : Registers) (m : List ℕ) where
     m₁ = set m (joined 1 S) (page (r .counter))
 
     abbrev m₂ : List ℕ
-    m₂ = set m₁ (joined 1 (down S)) (low (r .counter))
+    m₂ = set m₁ (joined 1 (down S)) (lowByte (r .counter))
 
     abbrev m₃ : List ℕ
     m₃ = set m₂ (joined 1 (down (down S))) (servedByte (r .status))
@@ -179,7 +172,7 @@ module _ (vector : ℕ) (r : Registers) (m : List ℕ) where
     top : getD m₃ (joined 1 (down (down S))) 0 ≡ servedByte (r .status)
     top = getD-set-same m₂ (joined 1 (down (down S))) _ 0 (simp length-set (omega (arith, full)))
 
-    middle : getD m₃ (joined 1 (down S)) 0 ≡ low (r .counter)
+    middle : getD m₃ (joined 1 (down S)) 0 ≡ lowByte (r .counter)
     middle =
         getD-set-other m₂ (joined 1 (down (down S))) (joined 1 (down S)) _ 0 (λ e. omega (arith, range .stack))
         ∙ getD-set-same m₁ (joined 1 (down S)) _ 0 (simp length-set (omega (arith, full)))
@@ -190,7 +183,7 @@ module _ (vector : ℕ) (r : Registers) (m : List ℕ) where
         ∙ getD-set-other m₁ (joined 1 (down S)) (joined 1 S) _ 0 (λ e. omega (arith, range .stack))
         ∙ getD-set-same m (joined 1 S) _ 0 (omega (arith, full, range .stack))
 
-    whole : joined (page (r .counter)) (low (r .counter)) ≡ r .counter
+    whole : joined (page (r .counter)) (lowByte (r .counter)) ≡ r .counter
     whole = omega arith
 
     pub served-returns : (mode : AddressingMode) → Gives (perform RTI mode within) pushed (leaves r 0) pushed
@@ -201,7 +194,7 @@ module _ (vector : ℕ) (r : Registers) (m : List ℕ) where
 pub held-irq : (lines : Lines) (s : Machine) (m : List ℕ) → Served lines s → calls lines (exec (stepFull lines s) m .0 .machine) ≡ false
 held-irq lines s m h =
     rw (step-serves lines s m (h .1 .0) (h .0) (h .1 .1) refl)
-    (second-not (not (lines .irq)) _ (served-masks (h .1 .0) (s .registers) m))
+    (second-not (not (lines .irq)) _ (ap not (served-masks (h .1 .0) (s .registers) m)))
 
 -- A step that serves a line reads the two bytes of its vector, in order, and nothing else; it puts out no address, and takes 7 cycles.
 pub served-reads : (lines : Lines) (s : Machine) (m : List ℕ) (vector : ℕ) → s .cycles ≤ highestCount → due lines s ≡ Through vector
