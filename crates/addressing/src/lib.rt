@@ -84,8 +84,8 @@ fn indexed(base: Address, index: u8) -> Target
     let sum = base.plus(index as u16);
     Target {
         address: sum.0,
-        crossed: base.0 / 256 != sum.0 / 256,
-        first: base.0 / 256 * 256 + sum.0 % 256,
+        crossed: base.high() != sum.high(),
+        first: join(base.high(), sum.low()).0,
     }
 }
 

@@ -8,8 +8,10 @@ ghost use Rattle.manual.specs.Stepping.{fullMemory};
 ghost use Rattle.footprint.specs.Ways.{firstAt, absolute, pointed};
 use memory::Address;
 use memory::ZeroPage;
+use memory::address_from_bytes;
 use memory::get_byte;
 use memory::join;
+use memory::read_address;
 
 // The place so many bytes after the opcode.
 pub(crate) fn operand(counter: u16, count: u16) -> Address
@@ -46,8 +48,7 @@ pub(crate) fn absolute(counter: u16, memory: &[u8]) -> Address
     requires { ⌜ length (now memory) ≡ fullMemory ⌝ }
     ensures { λ r. ⌜ r .0 ≡ absolute counter (now (memory .entry)) ⌝ }
 {
-    let first = get_byte(memory, operand(counter, 1));
-    join(get_byte(memory, operand(counter, 2)), first)
+    address_from_bytes(read_address(memory, operand(counter, 1), operand(counter, 2)))
 }
 
 // An address and an index.
@@ -62,6 +63,5 @@ pub(crate) fn pointed(pointer: ZeroPage, memory: &[u8]) -> Address
     requires { ⌜ length (now memory) ≡ fullMemory ⌝ }
     ensures { λ r. ⌜ r .0 ≡ pointed (pointer .0) (now (memory .entry)) ⌝ }
 {
-    let first = get_byte(memory, pointer.full());
-    join(get_byte(memory, pointer.plus(1).full()), first)
+    address_from_bytes(read_address(memory, pointer.full(), pointer.plus(1).full()))
 }
