@@ -1,4 +1,5 @@
 // The words after a program's name.
+ghost use Prim.Native.Nat.{_+_, _≤_};
 use reading::Count;
 use reading::Word;
 use reading::whole_count;
@@ -12,6 +13,10 @@ pub fn argument_is(index: usize, word: &[u8]) -> bool {
         return false;
     }
     check::same(&text[..length], word)
+}
+
+pub(crate) fn is_standard_input(index: usize) -> bool {
+    os::arg_count() <= index || argument_is(index, b"-")
 }
 
 // An argument as an address: `next` is NOWHERE where it is none, or missing.
@@ -36,7 +41,7 @@ fn is_option(index: usize) -> bool {
 }
 
 // Whether one of the arguments from an index on is an option.
-pub fn has_option(from: usize) -> bool {
+fn has_option(from: usize) -> bool {
     let count = os::arg_count();
     let mut index = from;
     while index < count {
@@ -46,4 +51,19 @@ pub fn has_option(from: usize) -> bool {
         index += 1;
     }
     false
+}
+
+// Where the names of files begin among the arguments from an index on: after `--`, where that is the first of them, and then
+// a name may begin with `-` too. 0 where none stands there and one of them is an option, which no program takes.
+pub fn names_from(from: usize) -> usize
+    requires { ⌜ from ≤ 255 ⌝ }
+    ensures { λ r. ⌜ r ≤ from + 1 ⌝ }
+{
+    if argument_is(from, b"--") {
+        return from + 1;
+    }
+    if has_option(from) {
+        return 0;
+    }
+    from
 }

@@ -1,16 +1,27 @@
 // What the programs share of their input and output: an argument, the input that it names, a sentence about it, and the
-// status that is handed over. Where something fails it is said on standard error here, and the caller learns the status.
+// status that is handed over. Where something fails it is said on standard error here, and the cell `failed`, which the
+// caller lends, keeps the first status that says so: 0 before there is one.
 mod arguments; // arguments.rt: the words after a program's name
-mod inputs; // inputs.rt: an input that is read, a sentence about it
+mod inputs; // inputs.rt: an input that is read
+mod names; // names.rt: the name of a file, as it is printed
 mod outputs; // outputs.rt: text that is written, the status
+mod progress; // progress.rt: how far a long piece of work is, at a terminal
 
 pub use arguments::address_argument;
 pub use arguments::argument_is;
 pub use arguments::count_argument;
-pub use arguments::has_option;
-pub use inputs::Input;
+pub use arguments::names_from;
+pub use inputs::close_input;
+pub use inputs::open_input;
 pub use inputs::read_input;
-pub use inputs::say_of;
+pub use inputs::read_two;
+pub use names::put_name;
+pub use names::put_printed;
+pub use names::say_of;
 pub use outputs::hand_over;
+pub use outputs::note_failure;
 pub use outputs::refuse;
+pub use outputs::say;
 pub use outputs::write_output;
+pub use progress::show_progress;
+pub use progress::wipe_progress;

@@ -1,20 +1,45 @@
-// Text that is written, and the status.
+// Text that is written, what fails, and the status.
 ghost use mathlib.Core.Path.{_≡_};
+ghost use Rattle.statuses.specs.Statuses.{firstOf};
+ghost use Rattle.console.specs.Failing.{FailureStays};
 use libc::STDERR_FILENO;
 use libc::STDOUT_FILENO;
+use statuses::FAILED;
 use statuses::WRONG_USAGE;
+use statuses::first_of;
 use statuses::put_status;
 
 // The descriptor on which `run` waits for the status.
 const STATUS_FILENO: i32 = 3;
 
-// Writes to standard output, and answers whether all of it was written.
-pub fn write_output(text: &[u8]) -> bool {
+// Notes a failure in the cell, unless something had failed before.
+pub fn note_failure(status: u8, failed: &mut u8)
+    ensures { λ r. ⌜ now (failed .exit) ≡ firstOf (now (failed .entry)) status ⌝ }
+    ensures { λ r. ⌜ FailureStays (now (failed .entry)) (now (failed .exit)) ⌝ }
+{
+    let before = *failed;
+    *failed = first_of(before, status);
+}
+
+// Writes to standard output. Where that fails it is said, and 74 is noted.
+pub fn write_output(text: &[u8], failed: &mut u8)
+    ensures { λ r. ⌜ FailureStays (now (failed .entry)) (now (failed .exit)) ⌝ }
+{
     if io::write_all(STDOUT_FILENO, text) {
-        return true;
+        return;
     }
     os::fail(b"standard output");
-    false
+    note_failure(FAILED, failed);
+}
+
+// Writes to standard error. Where that fails 74 is noted: a sentence is part of the answer.
+pub fn say(text: &[u8], failed: &mut u8)
+    ensures { λ r. ⌜ FailureStays (now (failed .entry)) (now (failed .exit)) ⌝ }
+{
+    if io::write_all(STDERR_FILENO, text) {
+        return;
+    }
+    note_failure(FAILED, failed);
 }
 
 // Says what a program takes, and answers the status of wrong usage.

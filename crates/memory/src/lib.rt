@@ -2,7 +2,7 @@
 ghost use mathlib.Core.Path.{_≡_};
 ghost use Prim.Native.Nat.{_+_};
 ghost use mathlib.Core.List.{[], _∷_};
-ghost use lib.ListN.{length, getD, set};
+ghost use lib.ListN.{length, getD, set, replicate};
 ghost use Rattle.manual.specs.Words.{lowByte, addressOf, page, joined};
 ghost use Rattle.manual.specs.Stepping.{fullMemory};
 
@@ -102,9 +102,11 @@ pub fn address_from_bytes(bytes: [u8; 2]) -> Address
     join(bytes[1], bytes[0])
 }
 
-// Room for an image of the memory and one byte more, so that a longer one shows.
-pub fn image_buffer() -> [u8; 65537]
-    ensures { λ r. ⌜ 65537 ≡ length r ⌝ }
+// Room for an image of the memory, or for a halted run, which has a line of at most 41 characters more, and one byte more, so
+// that a longer one shows.
+pub fn image_buffer() -> [u8; 65578]
+    ensures { λ r. ⌜ r ≡ replicate 65578 0 ⌝ }
+    ensures { λ r. ⌜ 65578 ≡ length r ⌝ }
 {
-    [0; 65537]
+    [0; 65578]
 }

@@ -8,6 +8,7 @@ use Rattle.manual.specs.declared.Reason.{Reason}
 use Rattle.manual.specs.declared.Reason.the-variants.{Made, MemoryNotFull, NoCycleRoom, NotAnOpcode, BoundTooHigh}
 use Rattle.manual.specs.Outcomes.{isMade}
 use Rattle.laws.specs.Characters.{characters}
+use Rattle.halted.specs.Halted.{isHalted}
 use Rattle.text.specs.Numerals.{hex2, hex4, decimal}
 use Rattle.statuses.specs.declared.Goal.{Goal}
 use Rattle.statuses.specs.Statuses.{reached}
@@ -18,13 +19,18 @@ stop b counter = characters "stopped: the byte " ++ hex2 b ++ characters " at " 
 abbrev pub running : ℕ → List ℕ
 running steps = characters "not finished: the program was still running after " ++ decimal steps ++ characters " steps\n"
 
--- the steps that were made, the counter where the run ended, and the byte there
-unfoldable pub meaning : Reason → ℕ → ℕ → ℕ → List ℕ
-meaning Made steps counter b = running steps
-meaning MemoryNotFull steps counter b = characters "refused: the image is not 65536 bytes long\n"
-meaning NoCycleRoom steps counter b = characters "stopped: the cycle count has no room for another step\n"
-meaning NotAnOpcode steps counter b = stop b counter
-meaning BoundTooHigh steps counter b = characters "refused: more than 1000000 steps were asked for\n"
+-- an image that is not 65,536 bytes long: it may be a halted run
+unfoldable pub refused : List ℕ → List ℕ
+refused image =
+    cond (isHalted image) (characters "refused: it is a halted run, which only go takes\n") (characters "refused: the image is not 65536 bytes long\n")
+
+-- the steps that were made, the counter where the run ended, and the image
+unfoldable pub meaning : Reason → ℕ → ℕ → List ℕ → List ℕ
+meaning Made steps counter image = running steps
+meaning MemoryNotFull steps counter image = refused image
+meaning NoCycleRoom steps counter image = characters "stopped: the cycle count has no room for another step\n"
+meaning NotAnOpcode steps counter image = stop (getD image counter 0) counter
+meaning BoundTooHigh steps counter image = characters "refused: more than 1000000 steps were asked for\n"
 
 abbrev pub allMade : ℕ → List ℕ
 allMade steps = characters "done: all " ++ decimal steps ++ characters " steps were made\n"
@@ -39,4 +45,4 @@ done reason steps counter = cond (isMade reason) (allMade steps) (endedAt counte
 unfoldable pub sentence : Goal → Ended → List ℕ → List ℕ
 sentence goal q image =
     let counter = q .machine .registers .counter in
-    cond (reached goal q) (done (q .reason) (q .steps) counter) (meaning (q .reason) (q .steps) counter (getD image counter 0))
+    cond (reached goal q) (done (q .reason) (q .steps) counter) (meaning (q .reason) (q .steps) counter image)

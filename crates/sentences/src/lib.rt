@@ -3,4 +3,5 @@ mod line; // line.rt: the line
 mod sentence; // sentence.rt: the sentence
 
 pub use line::put_line;
+pub use sentence::put_refused;
 pub use sentence::put_sentence;

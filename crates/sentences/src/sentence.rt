@@ -1,7 +1,8 @@
 // How a run ended, in words.
 ghost use Prim.Native.Nat.{_+_, _≤_};
 ghost use Rattle.text.specs.Written.{Wrote};
-ghost use Rattle.sentences.specs.Sentence.{stop, running, meaning, allMade, endedAt, done, sentence};
+ghost use Rattle.sentences.specs.Sentence.{stop, running, refused, meaning, allMade, endedAt, done, sentence};
+use halted::is_halted;
 use manual::Ended;
 use manual::Reason;
 use memory::Address;
@@ -36,26 +37,41 @@ fn put_running(out: &mut [u8], at: usize, steps: u64) -> usize
     put_text(out, after_steps, b" steps\n")
 }
 
+// Writes what is said of an image that is not 65,536 bytes long.
+pub fn put_refused(out: &mut [u8], at: usize, image: &[u8]) -> usize
+    ensures { λ r. ⌜ Wrote (now (out .entry)) at (refused (now (image .entry))) (now (out .exit)) r ⌝ }
+    ensures { λ r. ⌜ r ≤ at + 80 ⌝ }
+{
+    if is_halted(image) {
+        return put_text(
+            out,
+            at,
+            b"refused: it is a halted run, which only go takes\n",
+        );
+    }
+    put_text(out, at, b"refused: the image is not 65536 bytes long\n")
+}
+
 fn put_meaning(
     out: &mut [u8],
     at: usize,
     reason: Reason,
     steps: u64,
     counter: u16,
-    byte: u8,
+    image: &[u8],
 ) -> usize
-    ensures { λ r. ⌜ Wrote (now (out .entry)) at (meaning reason steps counter byte) (now (out .exit)) r ⌝ }
+    ensures { λ r. ⌜ Wrote (now (out .entry)) at (meaning reason steps counter (now (image .entry))) (now (out .exit)) r ⌝ }
     ensures { λ r. ⌜ r ≤ at + 80 ⌝ }
 {
     match reason {
         Reason::Made => put_running(out, at, steps),
-        Reason::MemoryNotFull => put_text(out, at, b"refused: the image is not 65536 bytes long\n"),
+        Reason::MemoryNotFull => put_refused(out, at, image),
         Reason::NoCycleRoom => put_text(
             out,
             at,
             b"stopped: the cycle count has no room for another step\n",
         ),
-        Reason::NotAnOpcode => put_stop(out, at, byte, counter),
+        Reason::NotAnOpcode => put_stop(out, at, peek(image, Address(counter)), counter),
         Reason::BoundTooHigh => put_text(
             out,
             at,
@@ -102,6 +118,5 @@ pub fn put_sentence(out: &mut [u8], at: usize, goal: Goal, ended: Ended, image: 
     if reached(goal, ended) {
         return put_done(out, at, reason, steps, counter);
     }
-    let byte = peek(image, Address(counter));
-    put_meaning(out, at, reason, steps, counter, byte)
+    put_meaning(out, at, reason, steps, counter, image)
 }

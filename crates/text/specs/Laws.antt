@@ -7,8 +7,8 @@ use native.Mathlib.Nat.{add-zero, add-suc, suc-add, add-assoc, pow-suc}
 use native.Mathlib.Numerals.{add-one}
 use native.Mathlib.Omega.{arith}
 use lib.Dec.{ltb}
-use lib.ListN.{length, length-append, take, set, getD}
-use lib.Seq.{sets, length-sets, set-out, take-suc, take-all}
+use lib.ListN.{length, length-append, take, drop, set, getD}
+use lib.Seq.{sets, length-sets, sets-eq, set-out, take-suc, take-all, take-append-seam}
 use borrow.Author.Tests.{lt-ltb, le-ltb, ltb-true, ltb-false}
 use Rattle.text.specs.Numerals.{digit, digits, decimal}
 use Rattle.text.specs.Written.{most, Wrote}
@@ -57,6 +57,12 @@ more t i h p q = rw (add-one i, take-suc t i 0 h) (then p q)
 
 pub whole : (t : List ℕ) (i : ℕ) {l m : List ℕ} {at n : ℕ} → length t ≤ i → Wrote l at (take i t) m n → Wrote l at t m n
 whole t i h p = rw (take-all i t h) at p
+
+-- A text at the start of a buffer that holds it is read back.
+pub read-back : {l t l′ : List ℕ} {n : ℕ} → Wrote l 0 t l′ n → length t ≤ length l → (n ≡ length t) × (take n l′ ≡ t)
+read-back {l} {t} {l′} {n} w h =
+    let size : n ≡ length t = omega (arith, w .ends, w .fits) in
+    (size, rw (size, w .bytes, sets-eq t l 0 (omega arith)) (take-append-seam t (drop (0 + length t) l)))
 
 -- A bound that is high enough does not matter.
 enough : (j k n : ℕ) → n ≤ j → n ≤ k → digits j n ≡ digits k n

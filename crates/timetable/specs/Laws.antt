@@ -4,8 +4,7 @@ use mathlib.Core.Path.{_≡_, refl, ap, sym, _∙_}
 use mathlib.Core.Bool.{true, false}
 use mathlib.Core.List.{List, [], _∷_, _++_}
 use native.Mathlib.Omega.{arith}
-use lib.ListN.{length, length-append, take, drop}
-use lib.Seq.{sets, sets-eq}
+use lib.ListN.{length, length-append}
 use borrow.Author.Tests.{eq-eqb, ne-eqb}
 use Rattle.manual.specs.declared.Machine.{Machine}
 use Rattle.manual.specs.declared.Stepped.{Stepped}
@@ -18,20 +17,8 @@ use Rattle.manual.specs.Theorems.Programs.{exec-then}
 use Rattle.manual.specs.Theorems.StepLaws.{step-late, step-serves, step-undefined, step-defined}
 use Rattle.manual.specs.Theorems.Answers.{Way, late, serves, undefined, ready, way}
 use Rattle.timetable.specs.Timetable.{stepLine, shown, fullTimetable, timetable}
-use Rattle.text.specs.Written.{Wrote}
 use Rattle.text.specs.Laws.{decimal-length}
 use Rattle.listing.specs.Lines.{instructionAt}
-
--- ---- a text read back from the buffer that it was written into
-
-front : (t r : List ℕ) → take (length t) (t ++ r) ≡ t
-front [] r = refl
-front (a ∷ t) r = ap (λ (l : List ℕ). a ∷ l) (front t r)
-
-pub read-back : {l t l′ : List ℕ} {n : ℕ} → Wrote l 0 t l′ n → length t ≤ length l → (n ≡ length t) × (take n l′ ≡ t)
-read-back {l} {t} {l′} {n} w h =
-    let size : n ≡ length t = omega (arith, w .ends, w .fits) in
-    (size, rw (size, w .bytes, sets-eq t l 0 (omega arith)) (front t (drop (0 + length t) l)))
 
 -- ---- a step
 

@@ -8,10 +8,10 @@ use denote.Ref.{now}
 use lib.ListN.{length, take}
 use lib.Seq.{length-take-le}
 use Rattle.manual.specs.Theorems.StepLaws.{step-whole}
-use Rattle.text.specs.Laws.{nothing}
+use Rattle.text.specs.Laws.{nothing, read-back}
 use Rattle.listing.specs.Lines.{instructionAt}
 use Rattle.listing.specs.Lengths.{instruction-length}
-use Rattle.timetable.specs.Laws.{not-back, read-back, shown-made, shown-refused}
+use Rattle.timetable.specs.Laws.{not-back, shown-made, shown-refused}
 use Rattle.timetable.proofs.put_step.Statement.{statement}
 use Rattle.timetable.proofs.put_step.Tie as tie
 

@@ -1,0 +1,17 @@
+-- A cell that holds the first failure: 0 before there is one, and then its status.
+use Prim.Native.Nat.{ℕ}
+use mathlib.Core.Path.{_≡_, sym, _∙_}
+use borrow.Author.Tests.{ne-eqb}
+use Rattle.statuses.specs.Statuses.{firstOf}
+
+-- what had failed before is still what it holds
+abbrev pub FailureStays : ℕ → ℕ → Type 0
+FailureStays before after = (before ≡ 0 → ⊥) → after ≡ before
+
+-- One piece of work after another.
+pub stays-on : {a b c : ℕ} → FailureStays a b → FailureStays b c → FailureStays a c
+stays-on s t h = t (λ z. h (sym (s h) ∙ z)) ∙ s h
+
+-- A later failure is noted only where there was none.
+pub stays-noted : (before status : ℕ) → FailureStays before (firstOf before status)
+stays-noted before status h = rw (ne-eqb before 0 h)
