@@ -15,6 +15,7 @@ pub use inputs::close_input;
 pub use inputs::open_input;
 pub use inputs::read_input;
 pub use inputs::read_two;
+pub use names::put_input_name;
 pub use names::put_name;
 pub use names::put_printed;
 pub use names::say_of;

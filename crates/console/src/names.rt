@@ -43,8 +43,8 @@ pub fn put_name(out: &mut [u8], at: usize, index: usize) -> usize
     put_printed(out, at, &name[..length])
 }
 
-// What a sentence calls the input that an argument names.
-pub(crate) fn put_input_name(out: &mut [u8], index: usize) -> usize
+// Puts what a sentence calls the input that an argument names.
+pub fn put_input_name(out: &mut [u8], index: usize) -> usize
     ensures { λ r. ⌜ r ≤ 4096 ⌝ }
 {
     if is_standard_input(index) {

@@ -9,6 +9,7 @@ use Rattle.manual.specs.Micro.{exec}
 use Rattle.manual.specs.Stepping.{step}
 use Rattle.vectors.specs.declared.State.{State}
 use Rattle.reading.specs.Numbers.{nowhere, markAt}
+use Rattle.statuses.specs.Statuses.{checkStatus}
 use Rattle.vectors.specs.Lines.{stateAt, barAt, loadedFrom, mostCells, lineAfter}
 use Rattle.replay.specs.declared.compare.Verdict.{Verdict}
 use Rattle.replay.specs.declared.line.Line.{Line}
@@ -86,3 +87,7 @@ tallyFrom (suc n) s at lines differ =
 -- a text has no more lines than characters
 unfoldable pub tallyOf : List ℕ → Tally
 tallyOf s = tallyFrom (length s) s 0 0 0
+
+-- the status of a list that was read into a buffer of 2,097,152 bytes: where it fills it, there may be more
+abbrev pub replayStatus : List ℕ → ℕ
+replayStatus s = cond (eqb (length s) 2097152) 1 (checkStatus (tallyOf s .lines) (tallyOf s .differ))

@@ -1,27 +1,30 @@
 // Makes the steps of a list again, and says how many differ.
 //
-// run replay [LIST]
+// run replay [--] [LIST]
 //
 // Every line of the list is one step, in the form of the crate vectors. The list is a file of fewer than 2,097,152 bytes, or
-// standard input where it is `-` or none is named. Each line that differs is named.
+// standard input where it is `-` or none is named; after `--` its name may begin with `-`. Each line that differs is named.
 //
 // Exit status: 0 there are lines and none differs; 1 one differs, or there is none, or the list is too long; 64 wrong usage,
 // 66 the list cannot be opened, 74 reading or writing failed.
 ghost use Prim.Native.Nat.{_≤_};
 ghost use mathlib.Core.Path.{_≡_};
-ghost use lib.ListN.{length};
-ghost use Rattle.replay.specs.Verdicts.{faults, tallyOf};
+ghost use lib.ListN.{length, take};
+ghost use Rattle.statuses.specs.Statuses.{checkStatus, firstOf};
+ghost use Rattle.console.specs.Failing.{FailureStays};
+ghost use Rattle.replay.specs.Verdicts.{faults, tallyOf, replayStatus};
 use compare::Verdict;
 use console::hand_over;
-use console::has_option;
+use console::names_from;
 use console::read_input;
 use console::refuse;
 use console::say_of;
 use console::write_output;
-use libc::STDOUT_FILENO;
 use line::replay_line;
-use statuses::FAILED;
 use statuses::check_status;
+use statuses::first_of;
+use text::put_decimal;
+use text::put_text;
 use vectors::next_line;
 
 mod compare; // compare.rt: one step against what a line says of it
@@ -31,6 +34,12 @@ mod line; // line.rt: one line
 struct Tally {
     lines: u64,
     differ: u64,
+}
+
+// The size of a list that was read, and the status by that.
+struct Told {
+    size: usize,
+    status: u8,
 }
 
 // A word for each verdict, with the end of the line; all are of one length, so that one write serves them.
@@ -78,24 +87,28 @@ fn word_of(verdict: Verdict) -> [u8; 12]
     }
 }
 
-// Names a line that differs, and answers 1 for it.
-fn tell(line: u64, verdict: Verdict) -> u64
+// Names a line that differs, and answers 1 for it. 39 is the most that this has: `line `, twenty digits, `: ` and a word.
+fn tell(line: u64, verdict: Verdict, failed: &mut u8) -> u64
     ensures { λ r. ⌜ r ≡ faults verdict ⌝ }
     ensures { λ r. ⌜ r ≤ 1 ⌝ }
+    ensures { λ r. ⌜ FailureStays (now (failed .entry)) (now (failed .exit)) ⌝ }
 {
     if let Verdict::Same = verdict {
         return 0;
     }
-    io::write_all(STDOUT_FILENO, b"line ");
-    io::print_decimal(STDOUT_FILENO, line);
-    io::write_all(STDOUT_FILENO, b": ");
+    let mut text = [0u8; 39];
+    let after_word = put_text(&mut text, 0, b"line ");
+    let after_line = put_decimal(&mut text, after_word, line);
+    let after_colon = put_text(&mut text, after_line, b": ");
     let word = word_of(verdict);
-    io::write_all(STDOUT_FILENO, &word);
+    let size = put_text(&mut text, after_colon, &word);
+    write_output(&text[..size], failed);
     1
 }
 
-fn replay(text: &[u8]) -> Tally
+fn replay(text: &[u8], failed: &mut u8) -> Tally
     ensures { λ r. ⌜ r ≡ tallyOf (now (text .entry)) ⌝ }
+    ensures { λ r. ⌜ FailureStays (now (failed .entry)) (now (failed .exit)) ⌝ }
 {
     let mut memory = io::large_buffer();
     let mut expected = io::large_buffer();
@@ -105,7 +118,7 @@ fn replay(text: &[u8]) -> Tally
     while at < text.len() {
         lines += 1;
         let verdict = replay_line(text, at, &mut memory, &mut expected);
-        differ += tell(lines, verdict);
+        differ += tell(lines, verdict, failed);
         at = next_line(text, at);
     }
     Tally {
@@ -121,36 +134,61 @@ fn list_buffer() -> [u8; 2097152]
     [0; 2097152]
 }
 
-// The last line. Where a line before it was not written, it is not written either.
-fn conclude(tally: Tally) -> u8 {
-    io::print_decimal(STDOUT_FILENO, tally.lines);
-    io::write_all(STDOUT_FILENO, b" steps replayed, ");
-    io::print_decimal(STDOUT_FILENO, tally.differ);
-    if write_output(b" differ\n") {
-        return check_status(tally.lines, tally.differ);
-    }
-    FAILED
+// The last line, and the status. 65 is the most that the line has: twice twenty digits, and the words.
+fn conclude(tally: Tally, failed: &mut u8) -> u8
+    ensures { λ r. ⌜ r ≡ firstOf (now (failed .exit)) (checkStatus (tally .lines) (tally .differ)) ⌝ }
+    ensures { λ r. ⌜ FailureStays (now (failed .entry)) (now (failed .exit)) ⌝ }
+{
+    let mut text = [0u8; 65];
+    let after_lines = put_decimal(&mut text, 0, tally.lines);
+    let after_words = put_text(&mut text, after_lines, b" steps replayed, ");
+    let after_differ = put_decimal(&mut text, after_words, tally.differ);
+    let size = put_text(&mut text, after_differ, b" differ\n");
+    write_output(&text[..size], failed);
+    first_of(*failed, check_status(tally.lines, tally.differ))
 }
 
-fn replay_input() -> u8 {
-    let mut text = list_buffer();
-    let input = read_input(1, &mut text);
-    if input.status != 0 {
-        return input.status;
+// Makes the steps of a list again, and answers the status. One that fills its buffer is too long.
+fn replay_list(index: usize, text: &[u8], failed: &mut u8) -> u8
+    ensures { λ r. ⌜ r ≡ firstOf (now (failed .exit)) (replayStatus (now (text .entry))) ⌝ }
+    ensures { λ r. ⌜ FailureStays (now (failed .entry)) (now (failed .exit)) ⌝ }
+{
+    if text.len() == 2097152 {
+        say_of(index, b"refused: the list is too long\n", failed);
+        return first_of(*failed, 1);
     }
-    let size = input.size;
-    if size == 2097152 {
-        say_of(1, b"refused: the list is too long\n");
-        return 1;
+    let tally = replay(text, failed);
+    conclude(tally, failed)
+}
+
+// The same of the list that an argument names, which is read into `input`.
+fn replay_argument(index: usize, input: &mut [u8], failed: &mut u8) -> Told
+    ensures { λ r. ⌜ r .status ≡ firstOf (now (failed .exit)) (replayStatus (take (r .size) (now (input .exit)))) ⌝ }
+    ensures { λ r. ⌜ FailureStays (now (failed .entry)) (now (failed .exit)) ⌝ }
+{
+    let size = read_input(index, input, failed);
+    if *failed != 0 {
+        return Told {
+            size: size,
+            status: *failed,
+        };
     }
-    conclude(replay(&text[..size]))
+    let status = replay_list(index, &input[..size], failed);
+    Told {
+        size: size,
+        status: status,
+    }
 }
 
 fn replay_by_arguments() -> u8 {
-    if 2 < os::arg_count() || has_option(1) {
+    let name = names_from(1);
+    if name == 0 || name + 1 < os::arg_count() {
         return refuse(b"replay: the only argument is a list; ./run replay --help\n");
     }
-    replay_input()
+    let mut input = list_buffer();
+    let mut failed: u8 = 0;
+    let told = replay_argument(name, &mut input, &mut failed);
+    told.status
 }
 
 fn main() {

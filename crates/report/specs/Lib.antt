@@ -1,3 +1,3 @@
 pub mod Status
-pub mod Laws
+pub mod Named
 pub mod Theorems

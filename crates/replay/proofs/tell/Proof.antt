@@ -1,13 +1,16 @@
--- Each verdict but the first is one fault.
-use mathlib.Core.Path.{_≡_, refl}
+-- Each verdict but the first is one fault, and its line fits its buffer.
+use Prim.Native.Nat.{_≤_}
+use mathlib.Core.Path.{_≡_, refl, sym}
 use mathlib.Core.List.{[], _∷_}
 use native.Mathlib.Omega.{arith}
+use lib.Seq.{length-take-le}
 use denote.Enum.Declared
-use borrow.Author.Needs.{needs}
 use types.Run
+use Rattle.text.specs.Laws.{decimal-length}
 use Rattle.replay.proofs.compare.Verdict as verdict
 use Rattle.replay.specs.declared.compare.Verdict.{Verdict}
 use Rattle.replay.specs.Verdicts.{faults}
+use borrow.Author.Needs.{needs}
 use Rattle.replay.proofs.tell.Statement.{statement}
 use Rattle.replay.proofs.tell.Tie as tie
 
@@ -25,13 +28,37 @@ one-fault Verdict.Cycles h = refl
 one-fault Verdict.Levels h = refl
 one-fault Verdict.Memory h = refl
 
+short : (c : tie.After-put-text3) → c .put-text3 .result ≤ 39
+short c =
+    let c₃ = c .before .before .before in
+    let c₅ = c₃ .before .before in
+    let c₉ = c₅ .before .before .before .before in
+    let c₁₂ = c₉ .before .before .before in
+    let c₁₆ = c₁₂ .before .before .before .before in
+    omega (
+      arith,
+      c .put-text3 .ensures .ends,
+      c₃ .word-of .ensures,
+      c₅ .put-text2 .ensures .ends,
+      c₉ .put-decimal .ensures .ends,
+      c₁₂ .put-text .ensures .ends,
+      decimal-length 19 (c₁₆ .args .line) (omega (arith, c₁₆)),
+    )
+
 returns : tie.Need-returns
-returns c = search needs
+returns c = (rw (c .enum-told .given .1), (omega arith, λ h. refl))
+
+array-share-prefix-text : tie.Need-array-share-prefix-text
+array-share-prefix-text c = omega (arith, short (c .before))
+
+slice-aggregate-write-output : tie.Need-slice-aggregate-write-output
+slice-aggregate-write-output c = sym (length-take-le _ _ (omega (arith, short (c .before .before))))
 
 returns-2 : tie.Need-returns-2
 returns-2 c =
-    let m = c .before .before .before .before .before .before .before .before in
-    (one-fault (m .before .args .verdict) (m .match .keys2), omega arith)
+    let c₁₉ = c .before .before .before .before .before .before .before .before .before .before .before .before .before .before .before .before .before .before .before in
+    let c₂₀ = c₁₉ .before in
+    (one-fault (c₂₀ .args .verdict) (c₁₉ .match .keys2), (omega arith, c .write-output .ensures))
 
 pub tell-spec : {M : Type 1} → statement M
-tell-spec = tie.close (tie.spec (λ c. omega arith) returns (λ c. omega arith) (λ c κs. tt) (λ c κs. tt) (λ c. omega arith) (λ c κs. tt) (λ c κs. tt) (λ c. omega arith) (λ c κs. tt) returns-2)
+tell-spec = tie.close (tie.spec (search needs) returns (search needs) (search needs) (search needs) (search needs) (search needs) (search needs) (search needs) (search needs) (search needs) (search needs) (search needs) (search needs) array-share-prefix-text slice-aggregate-write-output (search needs) returns-2)

@@ -1,19 +1,31 @@
--- The line is no longer than its buffer, and the status is that of the run where it was written.
-use mathlib.Core.Path.{sym}
+-- A line has an end, and the status is that of the run.
+use mathlib.Core.Path.{_∙_}
 use native.Mathlib.Omega.{arith}
-use lib.Seq.{length-take-le}
+use denote.Ref.{now}
+use lib.ListN.{length}
+use Rattle.manual.specs.Micro.{exec}
+use Rattle.reporting.specs.Report.{imageRun}
+use Rattle.console.specs.Failing.{stays-on}
+use Rattle.report.specs.Named.{line-ends}
 use borrow.Author.Needs.{needs}
 use Rattle.report.proofs.report_image.Statement.{statement}
 use Rattle.report.proofs.report_image.Tie as tie
 
-slice-aggregate-write-output : tie.Need-slice-aggregate-write-output
-slice-aggregate-write-output c = sym (length-take-le _ _ (omega (arith, c .before .before .before .before .before .report .ensures .1 .1)))
+write-line-requires : tie.Need-write-line-requires
+write-line-requires c κs =
+    let c₆ = c .before .before .before .before .before .before in
+    let c₁₀ = c₆ .before .before .before .before in
+    let image = now (c₁₀ .args .image) in
+    (omega (arith, c₆ .report .ensures .0 .ends, line-ends (exec (imageRun (length image)) image .0)), c₆ .report .ensures .1 .1, search needs)
 
 returns : tie.Need-returns
 returns c =
-    let c₁ = c .before in
-    let c₉ = c₁ .before .before .before .before .before .before .before .before in
-    rw (c .unless-lost .ensures, c₁ .say-ending .ensures, c₉ .report .ensures .1 .0)
+    let c₂ = c .before .before in
+    let c₆ = c₂ .before .before .before .before in
+    let c₁₃ = c₆ .before .before .before .before .before .before .before in (
+      rw (c₁₃ .report .ensures .1 .0) (c .first-of .ensures ∙ rw (c₂ .say-ending .ensures .0)),
+      stays-on (c₆ .write-line .ensures) (c₂ .say-ending .ensures .1),
+    )
 
 pub report-image-spec : {M : Type 1} → statement M
-report-image-spec = tie.close (tie.spec (search needs) (search needs) (search needs) slice-aggregate-write-output (search needs) (search needs) (search needs) (search needs) returns)
+report-image-spec = tie.close (tie.spec (search needs) (search needs) (search needs) write-line-requires (search needs) (search needs) (search needs) returns)
