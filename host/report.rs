@@ -130,11 +130,16 @@ impl Comparison {
             let mut said = lines.split_inclusive('\n');
             for ((number, file), Report { line, .. }) in (first..).zip(&files).zip(&reports) {
                 let said = said.next().unwrap_or_default();
+                let name = match number == first {
+                    true => "-".to_string(),
+                    false => file.display().to_string(),
+                };
+                let line = named(line, &name, files.len());
                 if said != line {
                     fs::rename(file, KEPT).map_err(at(file))?;
                     let name = KINDS[images::place_of(number)].name;
                     let what = format!("image {number} ({name}), kept as {KEPT}");
-                    return Err(differs(&what, line, said));
+                    return Err(differs(&what, &line, said));
                 }
                 fs::remove_file(file).map_err(at(file))?;
             }
@@ -171,6 +176,14 @@ impl Comparison {
             println!("  put right in the Rust's state at {steps} steps, on {images} images");
         }
         println!("{} images: the lines are equal", self.all.images);
+    }
+}
+
+/// The line as the program prints it: where several images are named, with the name after it.
+fn named(line: &str, name: &str, images: usize) -> String {
+    match images {
+        0 | 1 => line.to_string(),
+        _ => format!("{}  {name}\n", line.trim_end_matches('\n')),
     }
 }
 
@@ -256,6 +269,7 @@ fn stored() -> Result<usize, Fault> {
         };
         let image = fs::read(&path).map_err(at(&path))?;
         let line = lines::report(&image).map_err(Fault::Differs)?.line;
+        let line = named(&line, name, names.lines().count());
         let stored = expected.next().unwrap_or_default();
         if stored != line {
             let what = format!("{}, the line in {STORED}/stdout", path.display());

@@ -1,2 +1,3 @@
 pub mod Ahead
 pub mod Turns
+pub mod Concluded

@@ -4,7 +4,7 @@ ghost use mathlib.Core.Path.{_≡_};
 ghost use mathlib.Core.Bool.{true};
 ghost use lib.ListN.{length, take, drop};
 ghost use lib.Seq.{sets};
-ghost use Rattle.io.specs.Counts.{Counts};
+ghost use Rattle.console.specs.Failing.{FailureStays};
 ghost use Rattle.reading.specs.Numbers.{nowhere};
 ghost use Rattle.check_program.specs.Ahead.{partEnd, another};
 ghost use Rattle.check_program.specs.Turns.{partIn, added, Goes, More, Ends};
@@ -12,16 +12,17 @@ use checking::Last;
 use checking::Part;
 use checking::check_part;
 use checking::whole_lines;
-use console::Input;
-use console::argument_is;
-use libc::STDIN_FILENO;
+use console::close_input;
+use console::note_failure;
+use console::open_input;
+use console::put_input_name;
+use console::show_progress;
+use console::wipe_progress;
 use statuses::FAILED;
-use statuses::NOT_OPENED;
 use text::put_text;
 
-// How reading ended, 0 or a status; and what the check shows so far: its answer, the accepted lines and the last of them.
+// What the check shows so far: its answer, the accepted lines and the last of them.
 pub(crate) struct Found {
-    pub(crate) status: u8,
     pub(crate) answer: u8,
     pub(crate) lines: u64,
     pub(crate) last: Last,
@@ -35,25 +36,26 @@ struct Turn {
 }
 
 // Reads behind what was kept, and answers how much there is then: no more than before where the log has ended.
-fn read_more(descriptor: i32, kept: usize, buffer: &mut [u8]) -> Input
+fn read_more(
+    descriptor: i32,
+    shown: &[u8],
+    kept: usize,
+    buffer: &mut [u8],
+    failed: &mut u8,
+) -> usize
     requires { ⌜ kept ≤ length (now buffer) ⌝ }
-    ensures { λ r. ⌜ Counts (r .size) (now (buffer .exit)) ⌝ }
-    ensures { λ r. ⌜ (r .status ≡ 0 → kept ≤ r .size) ⌝ }
+    ensures { λ r. ⌜ (kept ≤ r) × (r ≤ length (now (buffer .exit))) ⌝ }
     ensures { λ r. ⌜ take kept (now (buffer .exit)) ≡ take kept (now (buffer .entry)) ⌝ }
+    ensures { λ r. ⌜ FailureStays (now (failed .entry)) (now (failed .exit)) ⌝ }
 {
     let got = libc::read(descriptor, &mut buffer[kept..]);
     if got < 0 {
-        os::fail(b"the log");
-        return Input {
-            status: FAILED,
-            size: 0,
-        };
+        os::fail(shown);
+        note_failure(FAILED, failed);
+        return kept;
     }
     let more = io::count(got, &buffer[kept..]);
-    Input {
-        status: 0,
-        size: kept + more,
-    }
+    kept + more
 }
 
 // Where a part ends: after its last LF. At the end of the log it is all there is, and so it is where more than 64 characters
@@ -101,11 +103,9 @@ fn goes_on(size: usize, whole: usize, ended: bool, answer: u8) -> bool
 // What a part shows, after so many lines.
 fn tally(lines: u64, part: Part) -> Found
     ensures { λ r. ⌜ (lines + part .lines ≤ nowhere → partIn r ≡ added lines part) ⌝ }
-    ensures { λ r. ⌜ r .status ≡ 0 ⌝ }
 {
     let last = part.last;
     Found {
-        status: 0,
         answer: part.answer,
         lines: std::num::wrapping_add_u64(lines, part.lines as u64),
         last: last,
@@ -124,7 +124,6 @@ fn check_read(
     requires { ⌜ (kept ≤ size) × (size ≤ length (now buffer)) ⌝ }
     ensures { λ r. ⌜ Goes (found .lines) (found .last) (take kept (now (buffer .entry))) (now (copy .entry)) (take (size - kept) (drop kept (now (buffer .entry)))) ended r (take (r .kept) (now (buffer .exit))) (now (copy .exit)) ⌝ }
     ensures { λ r. ⌜ r .kept ≤ length (now (buffer .exit)) ⌝ }
-    ensures { λ r. ⌜ r .found .status ≡ 0 ⌝ }
 {
     let whole = whole_lines(&buffer[..size]);
     let end = part_end(size, whole, ended);
@@ -140,45 +139,45 @@ fn check_read(
     }
 }
 
-// Reads a part and checks it.
+// Reads a part and checks it. Where it cannot be read nothing more is checked.
 fn check_some(
     descriptor: i32,
+    shown: &[u8],
     found: Found,
     kept: usize,
     buffer: &mut [u8],
     copy: &mut [u8],
+    failed: &mut u8,
 ) -> Turn
     requires { ⌜ kept ≤ length (now buffer) ⌝ }
     ensures { λ r. ⌜ r .kept ≤ length (now (buffer .exit)) ⌝ }
-    ensures { λ r. ⌜ (r .found .status ≡ 0 → More (found .lines) (found .last) (take kept (now (buffer .entry))) (now (copy .entry)) r (take (r .kept) (now (buffer .exit))) (now (copy .exit))) ⌝ }
-    ensures { λ r. ⌜ (r .more ≡ true → r .found .status ≡ 0) ⌝ }
+    ensures { λ r. ⌜ (now (failed .exit) ≡ 0 → More (found .lines) (found .last) (take kept (now (buffer .entry))) (now (copy .entry)) r (take (r .kept) (now (buffer .exit))) (now (copy .exit))) ⌝ }
+    ensures { λ r. ⌜ (r .more ≡ true → now (failed .exit) ≡ 0) ⌝ }
+    ensures { λ r. ⌜ FailureStays (now (failed .entry)) (now (failed .exit)) ⌝ }
 {
-    let input = read_more(descriptor, kept, buffer);
-    if input.status != 0 {
-        let before = found.last;
+    let size = read_more(descriptor, shown, kept, buffer, failed);
+    if *failed != 0 {
         return Turn {
-            found: Found {
-                status: input.status,
-                answer: 0,
-                lines: found.lines,
-                last: before,
-            },
-            kept: 0,
+            found: found,
+            kept: kept,
             more: false,
         };
     }
-    let size = input.size;
     check_read(found, kept, size, size == kept, buffer, copy)
+}
+
+fn tell_progress(lines: u64) {
+    show_progress(b"check", lines, b"lines");
 }
 
 // Reads the whole log and checks it, or stops at its first bad line: there is a text, the one that was read, of which this is
 // the check, whatever follows or where nothing does. The count of turns ends the loop for the proof alone.
-fn check_from(descriptor: i32, copy: &mut [u8]) -> Found
-    ensures { λ r. ⌜ (r .status ≡ 0 → Ends (now (copy .entry)) r (now (copy .exit))) ⌝ }
+fn check_from(descriptor: i32, shown: &[u8], copy: &mut [u8], failed: &mut u8) -> Found
+    ensures { λ r. ⌜ (now (failed .exit) ≡ 0 → Ends (now (copy .entry)) r (now (copy .exit))) ⌝ }
+    ensures { λ r. ⌜ FailureStays (now (failed .entry)) (now (failed .exit)) ⌝ }
 {
     let mut buffer = io::large_buffer();
     let mut found = Found {
-        status: 0,
         answer: 0,
         lines: 0,
         last: Last::Start,
@@ -186,40 +185,36 @@ fn check_from(descriptor: i32, copy: &mut [u8]) -> Found
     let mut kept: usize = 0;
     let mut turns: u64 = 18446744073709551615;
     while 0 < turns {
-        let turn = check_some(descriptor, found, kept, &mut buffer, copy);
+        let turn = check_some(descriptor, shown, found, kept, &mut buffer, copy, failed);
         found = turn.found;
         kept = turn.kept;
         if !turn.more {
             return found;
         }
+        tell_progress(found.lines);
         turns -= 1;
     }
-    Found {
-        status: FAILED,
-        answer: 0,
-        lines: 0,
-        last: Last::Start,
-    }
+    note_failure(FAILED, failed);
+    found
 }
 
 // Checks the log that an argument names.
-pub(crate) fn check_log(index: usize, copy: &mut [u8]) -> Found {
-    if argument_is(index, b"-") {
-        return check_from(STDIN_FILENO, copy);
-    }
+pub(crate) fn check_log(index: usize, copy: &mut [u8], failed: &mut u8) -> Found
+    ensures { λ r. ⌜ (now (failed .exit) ≡ 0 → Ends (now (copy .entry)) r (now (copy .exit))) ⌝ }
+    ensures { λ r. ⌜ FailureStays (now (failed .entry)) (now (failed .exit)) ⌝ }
+{
+    let descriptor = open_input(index, failed);
     let mut name = io::buffer();
-    let length = os::arg(index, &mut name);
-    let descriptor = os::open_read(&name[..length]);
-    if descriptor < 0 {
-        os::fail(&name[..length]);
+    let size = put_input_name(&mut name, index);
+    if *failed != 0 {
         return Found {
-            status: NOT_OPENED,
             answer: 0,
             lines: 0,
             last: Last::Start,
         };
     }
-    let found = check_from(descriptor, copy);
-    libc::close(descriptor);
+    let found = check_from(descriptor, &name[..size], copy, failed);
+    wipe_progress();
+    close_input(descriptor);
     found
 }

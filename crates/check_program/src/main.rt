@@ -1,13 +1,14 @@
 // Checks logs of another emulator against an image, and says which line is the first that does not follow.
 //
-// run check IMAGE LOG...
+// run check [--] IMAGE LOG...
 //
-// IMAGE is a file of 65,536 bytes. A log is a file of any length, or standard input where it is `-`. Its lines hold the last
-// seven fields of report's line: cycles, counter, A, X, Y, S, status. The first may be any state; every later one has to be
-// the state after one step from the line before, with idle lines, on the memory that the steps before it leave. What is found
-// goes to standard output, a line for each log: the answer and the line that it names, counted from 1; of a line that does not
-// follow, the line that would have been right after it, where a step can be made. A sentence on standard error says the same
-// in words, with the log's name before it. A log of one line is accepted: it shows nothing about a step.
+// IMAGE is a file of 65,536 bytes. A log is a file of any length, or standard input where it is `-`; after `--` a name may
+// begin with `-`. Its lines hold the last seven fields of report's line: cycles, counter, A, X, Y, S, status. The first may be
+// any state; every later one has to be the state after one step from the line before, with idle lines, on the memory that the
+// steps before it leave. What is found goes to standard output, a line for each log: the answer and the line that it names,
+// counted from 1; of a line that does not follow, the line that would have been right after it, where a step can be made. A
+// sentence on standard error says the same in words, with the log's name before it. A log of one line is accepted: it shows
+// nothing about a step.
 //
 // Exit status: 0 every line follows; 1 the image is not 65,536 bytes long; 11 a line is malformed or cut short, or there is
 // none; 12 a line does not follow from the one before; 64 wrong usage, 66 an input cannot be opened, 74 reading or writing
@@ -15,21 +16,25 @@
 //
 // What is accepted is promised by the crate checking, also part by part, and what the line and the sentence say by tracing.
 ghost use Prim.Native.Nat.{_≤_};
-ghost use lib.ListN.{length};
+ghost use mathlib.Core.Path.{_≡_};
+ghost use lib.ListN.{length, take};
+ghost use Rattle.statuses.specs.Statuses.{logStatus, firstOf};
+ghost use Rattle.console.specs.Failing.{FailureStays};
+ghost use Rattle.check_program.specs.Concluded.{Concludes};
 use checking::Last;
 use console::argument_is;
 use console::hand_over;
-use console::has_option;
-use console::read_input;
+use console::names_from;
+use console::read_two;
 use console::refuse;
 use console::say_of;
 use console::write_output;
+use ending::say_refused;
 use log::Found;
 use log::check_log;
 use manual::Ended;
 use memory::image_buffer;
 use sentences::put_sentence;
-use statuses::FAILED;
 use statuses::Goal;
 use statuses::first_of;
 use statuses::log_status;
@@ -39,115 +44,181 @@ use tracing::put_verdict;
 
 mod log; // log.rt: a log, read and checked part by part
 
-// The arguments that name files: the image, and the logs from the second one on.
-const IMAGE: usize = 1;
-
-const LOG: usize = 2;
+// The size of an image that was read, and the status by that.
+struct Told {
+    size: usize,
+    status: u8,
+}
 
 // 41 is the most that a line can have (`put_step`), and 66 that line with an answer and a number before it (`put_verdict`).
-fn write_verdict(answer: u8, line: u64, right: &[u8]) -> bool
+fn write_verdict(answer: u8, line: u64, right: &[u8], failed: &mut u8)
     requires { ⌜ length (now right) ≤ 41 ⌝ }
+    ensures { λ r. ⌜ FailureStays (now (failed .entry)) (now (failed .exit)) ⌝ }
 {
     let mut text = [0u8; 66];
     let end = put_verdict(&mut text, 0, answer, line, right);
-    write_output(&text[..end])
+    write_output(&text[..end], failed);
 }
 
 // 90 is the most that a sentence can have (`put_finding`).
-fn say_finding(index: usize, answer: u8, number: u64) {
+fn say_finding(index: usize, answer: u8, number: u64, failed: &mut u8)
+    ensures { λ r. ⌜ FailureStays (now (failed .entry)) (now (failed .exit)) ⌝ }
+{
     let mut text = [0u8; 90];
     let size = put_finding(&mut text, 0, answer, number);
-    say_of(index, &text[..size]);
+    say_of(index, &text[..size], failed);
+}
+
+// Why no step can be made from the last line, where none can be.
+fn say_stuck(index: usize, ended: Ended, copy: &[u8], failed: &mut u8)
+    ensures { λ r. ⌜ FailureStays (now (failed .entry)) (now (failed .exit)) ⌝ }
+{
+    let reason = ended.reason;
+    if reason.is_made() {
+        return;
+    }
+    let mut text = [0u8; 80];
+    let size = put_sentence(&mut text, 0, Goal::Unnamed, ended, copy);
+    say_of(index, &text[..size], failed);
 }
 
 // The line that would have followed; where no step can be made, a sentence says why.
-fn show_right(index: usize, line: u64, last: Last, copy: &mut [u8]) -> bool {
+fn show_right(index: usize, line: u64, last: Last, copy: &mut [u8], failed: &mut u8)
+    ensures { λ r. ⌜ FailureStays (now (failed .entry)) (now (failed .exit)) ⌝ }
+{
     match last {
-        Last::Start => write_verdict(12, line, b""),
+        Last::Start => write_verdict(12, line, b"", failed),
         Last::After(machine) => {
             let mut right = [0u8; 41];
             let traced = put_step(&mut right, 0, machine, copy);
             let size = traced.next;
-            if size == 0 {
-                let mut text = [0u8; 80];
-                let stepped = traced.stepped;
-                let reason = stepped.reason;
-                let ended = Ended::new(reason, 0, machine);
-                let length = put_sentence(&mut text, 0, Goal::Unnamed, ended, copy);
-                say_of(index, &text[..length]);
-            }
-            write_verdict(12, line, &right[..size])
+            let stepped = traced.stepped;
+            let reason = stepped.reason;
+            say_stuck(index, Ended::new(reason, 0, machine), copy, failed);
+            write_verdict(12, line, &right[..size], failed);
         }
     }
 }
 
-// Says what was found in a log, and answers its status.
-fn conclude(index: usize, found: Found, copy: &mut [u8]) -> u8 {
-    let status = log_status(copy.len(), found.answer, found.lines);
+// What is shown of a log that is not accepted.
+fn show_bad(index: usize, status: u8, found: Found, copy: &mut [u8], failed: &mut u8)
+    ensures { λ r. ⌜ FailureStays (now (failed .entry)) (now (failed .exit)) ⌝ }
+{
     let bad = std::num::wrapping_add_u64(found.lines, 1);
-    if status == 0 {
-        say_finding(index, 0, found.lines);
-        if write_verdict(0, 0, b"") {
-            return 0;
-        }
-        return FAILED;
-    }
-    say_finding(index, status, bad);
-    let last = found.last;
+    say_finding(index, status, bad, failed);
     if status == 12 {
-        if show_right(index, bad, last, copy) {
-            return 12;
-        }
-        return FAILED;
+        let last = found.last;
+        show_right(index, bad, last, copy, failed);
+        return;
     }
-    if write_verdict(status, bad, b"") {
-        return status;
-    }
-    FAILED
+    write_verdict(status, bad, b"", failed);
 }
 
-// Checks a log on a copy of the image.
-fn check_on(index: usize, copy: &mut [u8]) -> u8 {
-    let found = check_log(index, copy);
-    if found.status != 0 {
-        return found.status;
+// Shows what was found in a log, by its status.
+fn show_found(index: usize, status: u8, found: Found, copy: &mut [u8], failed: &mut u8)
+    ensures { λ r. ⌜ FailureStays (now (failed .entry)) (now (failed .exit)) ⌝ }
+{
+    if status == 0 {
+        say_finding(index, 0, found.lines, failed);
+        write_verdict(0, 0, b"", failed);
+        return;
     }
-    conclude(index, found, copy)
+    show_bad(index, status, found, copy, failed);
 }
 
-// Checks the log that an argument names on the image, which is read again for each.
-fn check_argument(index: usize) -> u8 {
-    let mut copy = image_buffer();
-    let input = read_input(IMAGE, &mut copy);
-    if input.status != 0 {
-        return input.status;
+// Shows what was found in a log, and answers its status.
+fn conclude(index: usize, found: Found, copy: &mut [u8], failed: &mut u8) -> u8
+    ensures { λ r. ⌜ r ≡ firstOf (now (failed .exit)) (logStatus (length (now (copy .entry))) (found .answer) (found .lines)) ⌝ }
+    ensures { λ r. ⌜ FailureStays (now (failed .entry)) (now (failed .exit)) ⌝ }
+{
+    let status = log_status(copy.len(), found.answer, found.lines);
+    show_found(index, status, found, copy, failed);
+    first_of(*failed, status)
+}
+
+// Checks a log on a copy of the image: there is a text, the one that was read, of which this is the status.
+fn check_on(index: usize, copy: &mut [u8], failed: &mut u8) -> u8
+    ensures { λ r. ⌜ Concludes (now (copy .entry)) (now (failed .exit)) r ⌝ }
+    ensures { λ r. ⌜ FailureStays (now (failed .entry)) (now (failed .exit)) ⌝ }
+{
+    let found = check_log(index, copy, failed);
+    if *failed != 0 {
+        return *failed;
     }
-    let size = input.size;
+    conclude(index, found, copy, failed)
+}
+
+// Says that an image is none, and answers the status.
+fn refuse_image(index: usize, image: &[u8], failed: &mut u8) -> u8
+    ensures { λ r. ⌜ r ≡ firstOf (now (failed .exit)) 1 ⌝ }
+    ensures { λ r. ⌜ FailureStays (now (failed .entry)) (now (failed .exit)) ⌝ }
+{
+    say_refused(index, image, failed);
+    write_verdict(1, 0, b"", failed);
+    first_of(*failed, 1)
+}
+
+// Checks a log on the image, which is read again for each: into `input`, which is left as it was read, and a copy.
+fn check_argument(
+    image: usize,
+    log: usize,
+    input: &mut [u8],
+    copy: &mut [u8],
+    failed: &mut u8,
+) -> Told
+    requires { ⌜ length (now input) ≤ length (now copy) ⌝ }
+    ensures { λ r. ⌜ Concludes (take (r .size) (now (input .exit))) (now (failed .exit)) (r .status) ⌝ }
+    ensures { λ r. ⌜ FailureStays (now (failed .entry)) (now (failed .exit)) ⌝ }
+{
+    let size = read_two(image, input, copy, failed);
+    if *failed != 0 {
+        return Told {
+            size: size,
+            status: *failed,
+        };
+    }
     if size != 65536 {
-        say_finding(IMAGE, 1, 0);
-        if write_verdict(1, 0, b"") {
-            return log_status(size, 0, 0);
-        }
-        return FAILED;
+        let status = refuse_image(image, &input[..size], failed);
+        return Told {
+            size: size,
+            status: status,
+        };
     }
-    check_on(index, &mut copy[..size])
+    let status = check_on(log, &mut copy[..size], failed);
+    Told {
+        size: size,
+        status: status,
+    }
 }
 
-fn check_by_arguments() -> u8 {
-    let count = os::arg_count();
-    if count < 3 || has_option(IMAGE) {
-        return refuse(b"check: give an image and a log, or several logs; ./run check --help\n");
-    }
-    if argument_is(IMAGE, b"-") {
-        return refuse(b"check: IMAGE is the name of a file\n");
-    }
+// Checks the logs from an index on, each with a cell of its own; the image stands before them.
+fn check_all(first: usize, count: usize) -> u8
+    requires { ⌜ 1 ≤ first ⌝ }
+{
+    let mut input = image_buffer();
+    let mut copy = image_buffer();
+    let mut failed: u8 = 0;
     let mut status = 0;
-    let mut index = LOG;
+    let mut index = first;
     while index < count {
-        status = first_of(status, check_argument(index));
+        failed = 0;
+        let told = check_argument(first - 1, index, &mut input, &mut copy, &mut failed);
+        status = first_of(status, told.status);
         index += 1;
     }
     status
+}
+
+fn check_by_arguments() -> u8 {
+    let image = names_from(1);
+    let count = os::arg_count();
+    if image == 0 || count < image + 2 {
+        return refuse(b"check: give an image and a log, or several logs; ./run check --help\n");
+    }
+    if argument_is(image, b"-") {
+        return refuse(b"check: IMAGE is the name of a file\n");
+    }
+    check_all(image + 1, count)
 }
 
 fn main() {

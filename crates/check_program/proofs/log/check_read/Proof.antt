@@ -35,8 +35,8 @@ returns c =
     let c₁₁ = c₈ .before .before .before in
     let c₁₂ = c₁₁ .before in
     let s = c₁₂ .before .before .before .before in (
-      turned _ _ _ _ (s .args .found) _ (record { found = c .tally .result; kept = c₄ .keep-rest .result; more = c .before .goes-on .result }) (s .pre .0) (s .pre .1) (c₁₂ .whole-lines .ensures .0) (c₁₁ .part-end .ensures .0) (c₁₁ .part-end .ensures .1 .0) (c₈ .check-part .ensures .0) (c₈ .check-part .ensures .1) (c₄ .keep-rest .ensures .0) (c₄ .keep-rest .ensures .1) (c .before .goes-on .ensures) (c .tally .ensures .0),
-      (omega (arith, c₄ .keep-rest .ensures .1, c₄ .keep-rest .kept, s .pre), c .tally .ensures .1),
+      turned _ _ _ _ (s .args .found) _ (record { found = c .tally .result; kept = c₄ .keep-rest .result; more = c .before .goes-on .result }) (s .pre .0) (s .pre .1) (c₁₂ .whole-lines .ensures .0) (c₁₁ .part-end .ensures .0) (c₁₁ .part-end .ensures .1 .0) (c₈ .check-part .ensures .0) (c₈ .check-part .ensures .1) (c₄ .keep-rest .ensures .0) (c₄ .keep-rest .ensures .1) (c .before .goes-on .ensures) (c .tally .ensures),
+      omega (arith, c₄ .keep-rest .ensures .1, c₄ .keep-rest .kept, s .pre),
     )
 
 pub check-read-spec : {M : Type 1} → statement M

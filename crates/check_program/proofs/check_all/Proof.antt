@@ -1,0 +1,16 @@
+-- One log after another, in the same two buffers.
+use Prim.Native.Nat.{_-_}
+use mathlib.Core.Path.{_≡_}
+use lib.ListN.{length}
+use borrow.Author.Needs.{needs}
+use Rattle.check_program.proofs.check_all.Statement.{statement}
+use Rattle.check_program.proofs.check_all.Tie as tie
+
+abbrev Inv-loop : tie.InvT-loop
+Inv-loop first count input₀ copy₀ failed₀ status₀ index₀ input copy failed status index = (length input ≡ length input₀) × (length copy ≡ length copy₀)
+
+abbrev μ-loop : tie.MeasureT-loop
+μ-loop first count input₀ copy₀ failed₀ status₀ index₀ input copy failed status index = count - index
+
+pub check-all-spec : {M : Type 1} → statement M
+check-all-spec = tie.close (tie.spec Inv-loop μ-loop (search needs) (search needs) (search needs) (search needs) (search needs) (search needs) (search needs) (search needs) (search needs) (search needs) (search needs) (search needs))
