@@ -23,6 +23,10 @@ textStatus image text = logStatus (length image) (checkedPart Start image text .
 abbrev pub Concludes : List ℕ → ℕ → ℕ → Type 0
 Concludes image failed status = (t : List ℕ) × (length t ≤ nowhere → status ≡ firstOf failed (textStatus image t))
 
+-- and is noted, where none was noted before that is not 0
+abbrev pub Notes : ℕ → List ℕ → ℕ → ℕ → Type 0
+Notes before image failed after = (t : List ℕ) × (length t ≤ nowhere → after ≡ firstOf before (firstOf failed (textStatus image t)))
+
 module _ (image : List ℕ) (f : Found) {m : List ℕ} (e : Ends image f m) where
   -- What was found is the check of the text that was read.
   check-found : length (e .0) ≤ nowhere → checkedPart Start image (e .0) ≡ (partIn f, m)

@@ -20,11 +20,12 @@ ghost use mathlib.Core.Path.{_≡_};
 ghost use lib.ListN.{length, take};
 ghost use Rattle.statuses.specs.Statuses.{logStatus, firstOf};
 ghost use Rattle.console.specs.Failing.{FailureStays};
-ghost use Rattle.check_program.specs.Concluded.{Concludes};
+ghost use Rattle.check_program.specs.Concluded.{Concludes, Notes};
 use checking::Last;
 use console::argument_is;
 use console::hand_over;
 use console::names_from;
+use console::note_failure;
 use console::read_two;
 use console::refuse;
 use console::say_of;
@@ -43,12 +44,6 @@ use tracing::put_step;
 use tracing::put_verdict;
 
 mod log; // log.rt: a log, read and checked part by part
-
-// The size of an image that was read, and the status by that.
-struct Told {
-    size: usize,
-    status: u8,
-}
 
 // 41 is the most that a line can have (`put_step`), and 66 that line with an answer and a number before it (`put_verdict`).
 fn write_verdict(answer: u8, line: u64, right: &[u8], failed: &mut u8)
@@ -136,18 +131,6 @@ fn conclude(index: usize, found: Found, copy: &mut [u8], failed: &mut u8) -> u8
     first_of(*failed, status)
 }
 
-// Checks a log on a copy of the image: there is a text, the one that was read, of which this is the status.
-fn check_on(index: usize, copy: &mut [u8], failed: &mut u8) -> u8
-    ensures { λ r. ⌜ Concludes (now (copy .entry)) (now (failed .exit)) r ⌝ }
-    ensures { λ r. ⌜ FailureStays (now (failed .entry)) (now (failed .exit)) ⌝ }
-{
-    let found = check_log(index, copy, failed);
-    if *failed != 0 {
-        return *failed;
-    }
-    conclude(index, found, copy, failed)
-}
-
 // Says that an image is none, and answers the status.
 fn refuse_image(index: usize, image: &[u8], failed: &mut u8) -> u8
     ensures { λ r. ⌜ r ≡ firstOf (now (failed .exit)) 1 ⌝ }
@@ -158,37 +141,43 @@ fn refuse_image(index: usize, image: &[u8], failed: &mut u8) -> u8
     first_of(*failed, 1)
 }
 
-// Checks a log on the image, which is read again for each: into `input`, which is left as it was read, and a copy.
+// Checks a log on a copy of the image, and answers the status: there is a text, the one that was read, of which this is it.
+// Where the image could not be read nothing is checked.
+fn check_on(image: usize, log: usize, copy: &mut [u8], failed: &mut u8) -> u8
+    ensures { λ r. ⌜ Concludes (now (copy .entry)) (now (failed .exit)) r ⌝ }
+    ensures { λ r. ⌜ FailureStays (now (failed .entry)) (now (failed .exit)) ⌝ }
+{
+    if *failed != 0 {
+        return *failed;
+    }
+    if copy.len() != 65536 {
+        return refuse_image(image, copy, failed);
+    }
+    let found = check_log(log, copy, failed);
+    if *failed != 0 {
+        return *failed;
+    }
+    conclude(log, found, copy, failed)
+}
+
+// Checks a log on the image, which is read again for each, and notes the status: of several logs the first that is not 0
+// stays. The image is left in `input` as it was read, and the log is checked on a copy; the answer is its size.
 fn check_argument(
     image: usize,
     log: usize,
     input: &mut [u8],
     copy: &mut [u8],
     failed: &mut u8,
-) -> Told
+    status: &mut u8,
+) -> usize
     requires { ⌜ length (now input) ≤ length (now copy) ⌝ }
-    ensures { λ r. ⌜ Concludes (take (r .size) (now (input .exit))) (now (failed .exit)) (r .status) ⌝ }
+    ensures { λ r. ⌜ Notes (now (status .entry)) (take r (now (input .exit))) (now (failed .exit)) (now (status .exit)) ⌝ }
     ensures { λ r. ⌜ FailureStays (now (failed .entry)) (now (failed .exit)) ⌝ }
 {
     let size = read_two(image, input, copy, failed);
-    if *failed != 0 {
-        return Told {
-            size: size,
-            status: *failed,
-        };
-    }
-    if size != 65536 {
-        let status = refuse_image(image, &input[..size], failed);
-        return Told {
-            size: size,
-            status: status,
-        };
-    }
-    let status = check_on(log, &mut copy[..size], failed);
-    Told {
-        size: size,
-        status: status,
-    }
+    let own = check_on(image, log, &mut copy[..size], failed);
+    note_failure(own, status);
+    size
 }
 
 // Checks the logs from an index on, each with a cell of its own; the image stands before them.
@@ -197,13 +186,19 @@ fn check_all(first: usize, count: usize) -> u8
 {
     let mut input = image_buffer();
     let mut copy = image_buffer();
+    let mut status: u8 = 0;
     let mut failed: u8 = 0;
-    let mut status = 0;
     let mut index = first;
     while index < count {
         failed = 0;
-        let told = check_argument(first - 1, index, &mut input, &mut copy, &mut failed);
-        status = first_of(status, told.status);
+        check_argument(
+            first - 1,
+            index,
+            &mut input,
+            &mut copy,
+            &mut failed,
+            &mut status,
+        );
         index += 1;
     }
     status

@@ -23,6 +23,7 @@ use console::address_argument;
 use console::argument_is;
 use console::hand_over;
 use console::names_from;
+use console::note_failure;
 use console::put_name;
 use console::read_two;
 use console::refuse;
@@ -37,12 +38,6 @@ use text::put_byte;
 use text::put_text;
 
 mod image; // image.rt: the run of an image, and its line
-
-// The size of an image that was read, and the status by that.
-struct Told {
-    size: usize,
-    status: u8,
-}
 
 // Puts the name of an argument after a line of so many characters, in place of its end.
 fn put_after(index: usize, text: &mut [u8], size: usize) -> usize
@@ -67,11 +62,15 @@ fn write_line(index: usize, several: bool, text: &mut [u8], size: usize, failed:
     write_output(&text[..size], failed);
 }
 
-// 64 is the most that a line can have (`report`), and 4,162 with a name (`put_after`).
+// Reports an image that was read, and answers its status; where that failed, it is not run. 64 is the most that a line can
+// have (`report`), and 4,162 with a name (`put_after`).
 fn report_image(index: usize, several: bool, goal: Goal, image: &mut [u8], failed: &mut u8) -> u8
     ensures { λ r. ⌜ r ≡ firstOf (now (failed .exit)) (imageStatus goal (now (image .entry))) ⌝ }
     ensures { λ r. ⌜ FailureStays (now (failed .entry)) (now (failed .exit)) ⌝ }
 {
+    if *failed != 0 {
+        return *failed;
+    }
     let mut text = [0u8; 4162];
     let reported = report(image, &mut text);
     let ended = reported.ended;
@@ -80,8 +79,8 @@ fn report_image(index: usize, several: bool, goal: Goal, image: &mut [u8], faile
     first_of(*failed, status)
 }
 
-// Reads the image that an argument names into `input` and reports it. It is run in `image`, so that `input` is left as it was
-// read.
+// Reads the image that an argument names into `input`, reports it and notes its status: of several the first that is not 0
+// stays. It is run in `image`, so that `input` is left as it was read; the answer is its size.
 fn report_argument(
     index: usize,
     several: bool,
@@ -89,23 +88,16 @@ fn report_argument(
     input: &mut [u8],
     image: &mut [u8],
     failed: &mut u8,
-) -> Told
+    status: &mut u8,
+) -> usize
     requires { ⌜ length (now input) ≤ length (now image) ⌝ }
-    ensures { λ r. ⌜ r .status ≡ firstOf (now (failed .exit)) (imageStatus goal (take (r .size) (now (input .exit)))) ⌝ }
+    ensures { λ r. ⌜ now (status .exit) ≡ firstOf (now (status .entry)) (firstOf (now (failed .exit)) (imageStatus goal (take r (now (input .exit))))) ⌝ }
     ensures { λ r. ⌜ FailureStays (now (failed .entry)) (now (failed .exit)) ⌝ }
 {
     let size = read_two(index, input, image, failed);
-    if *failed != 0 {
-        return Told {
-            size: size,
-            status: *failed,
-        };
-    }
-    let status = report_image(index, several, goal, &mut image[..size], failed);
-    Told {
-        size: size,
-        status: status,
-    }
+    let own = report_image(index, several, goal, &mut image[..size], failed);
+    note_failure(own, status);
+    size
 }
 
 // Reports the images that the arguments from an index on name, each with a cell of its own, or standard input where there
@@ -113,25 +105,33 @@ fn report_argument(
 fn report_all(from: usize, goal: Goal) -> u8 {
     let mut input = image_buffer();
     let mut image = image_buffer();
+    let mut status: u8 = 0;
     let mut failed: u8 = 0;
     let count = os::arg_count();
     if count <= from {
-        let told = report_argument(from, false, goal, &mut input, &mut image, &mut failed);
-        return told.status;
+        report_argument(
+            from,
+            false,
+            goal,
+            &mut input,
+            &mut image,
+            &mut failed,
+            &mut status,
+        );
+        return status;
     }
-    let mut status = 0;
     let mut index = from;
     while index < count {
         failed = 0;
-        let told = report_argument(
+        report_argument(
             index,
             1 < count - from,
             goal,
             &mut input,
             &mut image,
             &mut failed,
+            &mut status,
         );
-        status = first_of(status, told.status);
         index += 1;
     }
     status

@@ -7,10 +7,10 @@ use Rattle.check_program.proofs.check_all.Statement.{statement}
 use Rattle.check_program.proofs.check_all.Tie as tie
 
 abbrev Inv-loop : tie.InvT-loop
-Inv-loop first count input₀ copy₀ failed₀ status₀ index₀ input copy failed status index = (length input ≡ length input₀) × (length copy ≡ length copy₀)
+Inv-loop first count input₀ copy₀ status₀ failed₀ index₀ input copy status failed index = (length input ≡ length input₀) × (length copy ≡ length copy₀)
 
 abbrev μ-loop : tie.MeasureT-loop
-μ-loop first count input₀ copy₀ failed₀ status₀ index₀ input copy failed status index = count - index
+μ-loop first count input₀ copy₀ status₀ failed₀ index₀ input copy status failed index = count - index
 
 pub check-all-spec : {M : Type 1} → statement M
-check-all-spec = tie.close (tie.spec Inv-loop μ-loop (search needs) (search needs) (search needs) (search needs) (search needs) (search needs) (search needs) (search needs) (search needs) (search needs) (search needs) (search needs))
+check-all-spec = tie.close (tie.spec Inv-loop μ-loop (search needs) (search needs) (search needs) (search needs) (search needs) (search needs) (search needs) (search needs) (search needs) (search needs) (search needs))

@@ -10,8 +10,7 @@ slice-aggregate-say-of : tie.Need-slice-aggregate-say-of
 slice-aggregate-say-of c = sym (length-take-le _ _ (omega (arith, c .before .before .put-finding .ensures .1)))
 
 returns : tie.Need-returns
-returns c =
-    c .say-of .ensures
+returns c = c .say-of .ensures
 
 pub say-finding-spec : {M : Type 1} → statement M
 say-finding-spec = tie.close (tie.spec (search needs) (search needs) (search needs) slice-aggregate-say-of (search needs) returns)

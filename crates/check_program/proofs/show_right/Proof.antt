@@ -16,8 +16,7 @@ write-verdict-requires-2 c κs =
     omega (arith, c₁₀ .put-step .ensures .1 .1, length-take-le (c₁₀ .put-step .result .next) (c₁₀ .put-step .last .0) (omega (arith, c₁₀ .put-step .ensures .1 .1)))
 
 returns : tie.Need-returns
-returns c =
-    c .write-verdict .ensures
+returns c = c .write-verdict .ensures
 
 returns-2 : tie.Need-returns-2
 returns-2 c = stays-on (c .before .before .before .say-stuck .ensures) (c .write-verdict2 .ensures)

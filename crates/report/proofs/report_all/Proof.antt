@@ -7,10 +7,10 @@ use Rattle.report.proofs.report_all.Statement.{statement}
 use Rattle.report.proofs.report_all.Tie as tie
 
 abbrev Inv-loop : tie.InvT-loop
-Inv-loop from goal input₀ image₀ failed₀ count status₀ index₀ input image failed status index = (length input ≡ length input₀) × (length image ≡ length image₀)
+Inv-loop from goal input₀ image₀ status₀ failed₀ count index₀ input image status failed index = (length input ≡ length input₀) × (length image ≡ length image₀)
 
 abbrev μ-loop : tie.MeasureT-loop
-μ-loop from goal input₀ image₀ failed₀ count status₀ index₀ input image failed status index = count - index
+μ-loop from goal input₀ image₀ status₀ failed₀ count index₀ input image status failed index = count - index
 
 pub report-all-spec : {M : Type 1} → statement M
-report-all-spec = tie.close (tie.spec Inv-loop μ-loop (search needs) (search needs) (search needs) (search needs) (search needs) (search needs) (search needs) (search needs) (search needs) (search needs) (search needs) (search needs) (search needs) (search needs) (search needs) (search needs) (search needs))
+report-all-spec = tie.close (tie.spec Inv-loop μ-loop (search needs) (search needs) (search needs) (search needs) (search needs) (search needs) (search needs) (search needs) (search needs) (search needs) (search needs) (search needs) (search needs) (search needs) (search needs) (search needs))

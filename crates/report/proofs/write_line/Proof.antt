@@ -20,15 +20,13 @@ slice-aggregate-write-output c =
     sym (length-take-le _ _ (omega (arith, after-within (c₃ .put-after .ensures), c₃ .put-after .kept, c₇ .pre)))
 
 returns : tie.Need-returns
-returns c =
-    c .write-output .ensures
+returns c = c .write-output .ensures
 
 slice-aggregate-write-output-2 : tie.Need-slice-aggregate-write-output-2
 slice-aggregate-write-output-2 c = sym (length-take-le _ _ (omega (arith, c .before .before .before .pre)))
 
 returns-2 : tie.Need-returns-2
-returns-2 c =
-    c .write-output2 .ensures
+returns-2 c = c .write-output2 .ensures
 
 pub write-line-spec : {M : Type 1} → statement M
 write-line-spec = tie.close (tie.spec (search needs) slice-reshare-prefix-write-output slice-aggregate-write-output (search needs) (search needs) returns (search needs) slice-aggregate-write-output-2 (search needs) (search needs) returns-2)
