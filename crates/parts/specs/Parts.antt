@@ -10,7 +10,7 @@ use borrow.Author.Tests.{eqb-true, eqb-false}
 use Rattle.manual.specs.declared.Machine.{Machine}
 use Rattle.manual.specs.declared.Ended.{Ended}
 use Rattle.manual.specs.declared.Reason.{Reason}
-use Rattle.manual.specs.declared.Reason.the-variants.{Made, MemoryNotFull, NoCycleRoom, NotAnOpcode, BoundTooHigh}
+use Rattle.manual.specs.declared.Reason.the-variants.{Made, MemoryNotFull}
 use Rattle.manual.specs.Micro.{exec, Gives}
 use Rattle.manual.specs.Outcomes.{isMade, ended}
 use Rattle.manual.specs.Interrupts.{idle}
@@ -18,13 +18,6 @@ use Rattle.manual.specs.Stepping.{fullMemory, longRun}
 use Rattle.manual.specs.Theorems.StepLaws.{long-short, long-whole}
 use Rattle.manual.specs.Theorems.RunAnswers.{Ends, all-made, no-cycle-room, not-an-opcode, run-ends}
 use Rattle.manual.specs.Theorems.Lunch.{added, full-lunch, full-stopped}
-
-pub was-made : (r : Reason) → isMade r ≡ true → r ≡ Made
-was-made Made e = refl
-was-made MemoryNotFull e = let z : _≡_ {A = ℕ} 0 1 = cc in absurd (omega arith)
-was-made NoCycleRoom e = let z : _≡_ {A = ℕ} 0 1 = cc in absurd (omega arith)
-was-made NotAnOpcode e = let z : _≡_ {A = ℕ} 0 1 = cc in absurd (omega arith)
-was-made BoundTooHigh e = let z : _≡_ {A = ℕ} 0 1 = cc in absurd (omega arith)
 
 pub was-stopped : (r : Reason) → isMade r ≡ false → r ≡ Made → ⊥
 was-stopped r e p = let z : true ≡ false = rw p at e in let y : _≡_ {A = ℕ} 0 1 = cc in omega arith

@@ -16,9 +16,8 @@ badLine line why = characters "refused: line " ++ decimal line ++ why
 unfoldable pub finding : ℕ → ℕ → List ℕ
 finding answer number =
     cond (eqb answer 0) (acceptedLines number)
-    (cond (eqb answer 1) (characters "refused: the image is not 65536 bytes long\n")
     (cond (eqb answer 12) (badLine number (characters " is not the state after a step from the line before\n"))
-    (badLine number (characters " is malformed, cut short or missing\n"))))
+    (badLine number (characters " is malformed, cut short or missing\n")))
 
 -- the line that would have been right, which has its LF, or LF alone
 abbrev pub rightOr : List ℕ → List ℕ

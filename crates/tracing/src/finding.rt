@@ -35,9 +35,6 @@ pub fn put_finding(out: &mut [u8], at: usize, answer: u8, number: u64) -> usize
     if answer == 0 {
         return put_accepted(out, at, number);
     }
-    if answer == 1 {
-        return put_text(out, at, b"refused: the image is not 65536 bytes long\n");
-    }
     if answer == 12 {
         return put_bad(
             out,

@@ -17,23 +17,16 @@ unfolding finding
 returns-2 c =
     let c₂ = c .before .before in
     let c₅ = c₂ .before .before .before in
-    (rw (ne-eqb _ _ (c₅ .before .if1 .left), eq-eqb _ _ (c₅ .if2 .taken)) (c₂ .put-text .ensures), omega (arith, c₂ .put-text .ensures .ends))
+    let bad = c₂ .put-bad .ensures in
+    (rw (ne-eqb _ _ (c₅ .before .if1 .left), eq-eqb _ _ (c₅ .if2 .taken)) (bad .0), omega (arith, bad .1))
 
 returns-3 : tie.Need-returns-3
 unfolding finding
 returns-3 c =
     let c₂ = c .before .before in
     let c₅ = c₂ .before .before .before in
-    let bad = c₂ .put-bad .ensures in
-    (rw (ne-eqb _ _ (c₅ .before .before .if1 .left), ne-eqb _ _ (c₅ .before .if2 .left), eq-eqb _ _ (c₅ .if3 .taken)) (bad .0), omega (arith, bad .1))
-
-returns-4 : tie.Need-returns-4
-unfolding finding
-returns-4 c =
-    let c₂ = c .before .before in
-    let c₅ = c₂ .before .before .before in
     let bad = c₂ .put-bad2 .ensures in
-    (rw (ne-eqb _ _ (c₅ .before .before .if1 .left), ne-eqb _ _ (c₅ .before .if2 .left), ne-eqb _ _ (c₅ .if3 .left)) (bad .0), omega (arith, bad .1))
+    (rw (ne-eqb _ _ (c₅ .before .if1 .left), ne-eqb _ _ (c₅ .if2 .left)) (bad .0), omega (arith, bad .1))
 
 pub put-finding-spec : {M : Type 1} → statement M
 put-finding-spec =
@@ -49,8 +42,4 @@ put-finding-spec =
     (search needs)
     (search needs)
     (search needs)
-    returns-3
-    (search needs)
-    (search needs)
-    (search needs)
-    returns-4)
+    returns-3)
