@@ -68,6 +68,16 @@ first-step s m q m₁ full g made = (
   ap (λ p. exec p m) (step-whole (length m) idle s full) ∙ g ∙ ap (λ (r : Reason). (stepped r (q .first) (q .machine), m₁)) made,
 )
 
+-- steps that are made leave a state that can be printed, and bytes
+pub led-spellable : (n : ℕ) (s : Machine) (m : List ℕ) (s′ : Machine) (m′ : List ℕ) → length m ≡ fullMemory → Spellable s → Bytes m → Leads n idle s m s′ m′
+    → Spellable s′ × Bytes m′
+led-spellable zero s m s′ m′ full h b led = (subst Spellable (led .0) h, subst Bytes (led .1) b)
+led-spellable (suc n) s m s′ m′ full h b led =
+    let one = first-step s m (led .0) (led .1) full (led .2) (led .3) in
+    let size : length (led .1) ≡ fullMemory = ap (λ (w : Stepped × List ℕ). length (w .1)) (sym (led .2)) ∙ exec-length (stepFull idle s) m ∙ full in
+    let kept = made-spellable s m full one h b in
+    led-spellable n (led .0 .machine) (led .1) s′ m′ size (kept .0) (kept .1) (led .4)
+
 honest-steps : (n : ℕ) (s : Machine) (m : List ℕ) (s′ : Machine) (m′ : List ℕ) → length m ≡ fullMemory → Spellable s → Bytes m → Leads n idle s m s′ m′
     → AllSpellable (laterStates n s m) × Follow (After s) m (laterStates n s m) (After s′) m′
 honest-steps zero s m s′ m′ full h b led = (tt, (ap After (led .0), led .1))

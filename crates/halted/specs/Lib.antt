@@ -1,1 +1,3 @@
 pub mod Halted
+pub mod Laws
+pub mod Theorems
