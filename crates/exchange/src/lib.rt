@@ -1,11 +1,17 @@
 // What the programs hex and tape share: a text that is moved to the other format and printed, and the status of it.
+ghost use Prim.Native.Nat.{_≤_};
+ghost use mathlib.Core.Path.{_≡_};
+ghost use lib.ListN.{take};
+ghost use Rattle.statuses.specs.Statuses.{firstOf};
+ghost use Rattle.console.specs.Failing.{FailureStays};
+ghost use Rattle.moving.specs.Moving.{movedFrom};
 use console::say_of;
 use console::write_output;
 use loading::Format;
 use loading::Verdict;
 use loading::format_of;
 use moving::move_text;
-use statuses::FAILED;
+use statuses::first_of;
 use tape_input::read_tape_input;
 use tape_input::say_verdict;
 use tapes::tape_buffer;
@@ -13,24 +19,41 @@ use tapes::tape_buffer;
 // The answer of a new text that does not fit.
 const TOO_LONG: u8 = 10;
 
-fn explain(index: usize, from: Format, verdict: Verdict) {
+// How many characters were read, and the status.
+pub struct Done {
+    pub size: usize,
+    pub status: u8,
+}
+
+fn explain(index: usize, from: Format, verdict: Verdict, failed: &mut u8)
+    ensures { λ r. ⌜ FailureStays (now (failed .entry)) (now (failed .exit)) ⌝ }
+{
     if verdict.answer == TOO_LONG {
-        say_of(
+        return say_of(
             index,
             b"refused: the new text has more than 1048576 characters\n",
+            failed,
         );
-        return;
     }
-    say_verdict(index, from, verdict);
+    say_verdict(index, from, verdict, failed);
 }
 
 // Says of a text that is refused from its start on whether it is one for the other program.
-fn point_out(index: usize, from: Format, text: &[u8]) {
+fn point_out(index: usize, from: Format, verdict: Verdict, text: &[u8], failed: &mut u8)
+    ensures { λ r. ⌜ FailureStays (now (failed .entry)) (now (failed .exit)) ⌝ }
+{
+    if verdict.answer != 5 || verdict.good != 0 {
+        return;
+    }
     match from {
         Format::Tape => match format_of(text) {
             Format::Tape => {}
             Format::Hex => {
-                say_of(index, b"it is Intel HEX: ./run tape makes a tape of it\n");
+                say_of(
+                    index,
+                    b"it is Intel HEX: ./run tape makes a tape of it\n",
+                    failed,
+                );
             }
         },
         Format::Hex => match format_of(text) {
@@ -38,6 +61,7 @@ fn point_out(index: usize, from: Format, text: &[u8]) {
                 say_of(
                     index,
                     b"it is no Intel HEX: ./run hex makes that of a tape\n",
+                    failed,
                 );
             }
             Format::Hex => {}
@@ -45,29 +69,52 @@ fn point_out(index: usize, from: Format, text: &[u8]) {
     }
 }
 
-// Prints the moved text. Nothing is said to be done where it could not be written.
-fn print_moved(index: usize, from: Format, text: &[u8]) -> u8 {
-    let mut out = tape_buffer();
-    let moved = move_text(from, text, &mut out);
+// Prints the moved text, which is put into `out`. Nothing is said to be done where it could not be written.
+fn print_moved(index: usize, from: Format, text: &[u8], out: &mut [u8], failed: &mut u8) -> u8
+    ensures { λ r. ⌜ r ≡ firstOf (now (failed .exit)) (movedFrom from (now (text .entry)) (now (out .entry)) .answer) ⌝ }
+{
+    let moved = move_text(from, text, out);
     let size = moved.size;
-    if !write_output(&out[..size]) {
-        return FAILED;
-    }
     let verdict = moved.verdict;
-    explain(index, from, verdict);
-    if verdict.answer == 5 && verdict.good == 0 {
-        point_out(index, from, text);
+    write_output(&out[..size], failed);
+    if *failed != 0 {
+        return *failed;
     }
-    verdict.answer
+    explain(index, from, verdict, failed);
+    point_out(index, from, verdict, text, failed);
+    first_of(*failed, verdict.answer)
 }
 
-// Moves the text that an argument names, which has a format, to the other one, and prints it. The answer is the exit status.
+// Reads the text that an argument names, which has a format, and prints it in the other one. The buffers are lent, so that
+// the promise can name what was read.
+pub fn move_input(
+    index: usize,
+    from: Format,
+    text: &mut [u8],
+    out: &mut [u8],
+    failed: &mut u8,
+) -> Done
+    ensures { λ r. ⌜ r .status ≡ firstOf (now (failed .exit)) (movedFrom from (take (r .size) (now (text .exit))) (now (out .entry)) .answer) ⌝ }
+{
+    let size = read_tape_input(index, text, failed);
+    if *failed != 0 {
+        return Done {
+            size: size,
+            status: *failed,
+        };
+    }
+    let status = print_moved(index, from, &text[..size], out, failed);
+    Done {
+        size: size,
+        status: status,
+    }
+}
+
+// Moves the text that an argument names, and answers the status.
 pub fn move_argument(index: usize, from: Format) -> u8 {
     let mut text = tape_buffer();
-    let input = read_tape_input(index, &mut text);
-    if input.status != 0 {
-        return input.status;
-    }
-    let size = input.size;
-    print_moved(index, from, &text[..size])
+    let mut out = tape_buffer();
+    let mut failed = 0;
+    let done = move_input(index, from, &mut text, &mut out, &mut failed);
+    done.status
 }

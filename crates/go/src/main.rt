@@ -1,135 +1,208 @@
-// Runs an image for as many steps as are asked for, and keeps the memory after it where it ended as it was meant to.
+// Runs an image for as many steps as are asked for, and keeps what it leaves where it ended as it was meant to.
 //
-// run go STEPS STOP IMAGE AFTER [STATE]
+// run go STEPS STOP [--] IMAGE AFTER
 //
 // At most STEPS steps are made, a decimal number of 64 bits. STOP is where the program is meant to end, four capital
 // hexadecimal digits; with `-` it is meant to make all STEPS steps, as one that is halted and goes on later. IMAGE is a file
 // of 65,536 bytes, or standard input where it is `-`. The run begins as that of report, and its line goes to standard output;
-// a sentence, with the image's name before it, goes to standard error. AFTER is a file. The memory after the run is written
-// there, whole and at once, where it ended as it was meant to; otherwise a file of that name is left as it was.
-// With STATE, the last seven fields of the line of a run that was halted, it goes on from there, with IMAGE the AFTER of that
-// run: so two runs are one (the theorem `lunch`). Its own steps alone are counted, and all cycles.
+// a sentence, with the image's name before it, goes to standard error. AFTER is another file. Where the run ended as it was
+// meant to, the memory after it is written there, whole and at once; otherwise a file of that name is left as it was.
+// With `-` AFTER is a halted run: the memory, and then the line of the state, as trace writes it. Such a file is an IMAGE
+// too: the run goes on from that state, so two runs are one (the theorem `lunch-of-files`). Its own steps alone are counted,
+// and all cycles.
 //
 // Exit status: 0 the run ended so, and AFTER is written; 3 at a byte that is no opcode, elsewhere than at STOP; 20 it was
-// still running; 1 the image is not 65,536 bytes long; 2 no room for more cycles; 64 wrong usage, 66 the image cannot be
-// opened, 74 reading or writing failed.
+// still running; 1 the image is neither 65,536 bytes long nor a halted run; 2 no room for more cycles; 64 wrong usage, also
+// where AFTER is IMAGE by another name; 66 the image cannot be opened, 74 reading or writing failed.
 //
-// What is run, the line, the sentence and the status are promised by the crates reporting and statuses.
+// What is run, the line, the sentence, the status and what is kept are promised by the functions below, and by the crates
+// reporting, statuses and halted.
+ghost use Prim.Native.Nat.{_+_, _≤_};
+ghost use mathlib.Core.Path.{_≡_};
+ghost use lib.ListN.{length, take};
+ghost use Rattle.manual.specs.Stepping.{fullMemory};
+ghost use Rattle.statuses.specs.Statuses.{firstOf};
+ghost use Rattle.console.specs.Failing.{FailureStays};
+ghost use Rattle.go.specs.Runs.{goStatus, goAfter};
 use console::address_argument;
 use console::argument_is;
 use console::count_argument;
 use console::hand_over;
-use console::has_option;
-use console::read_input;
+use console::names_from;
+use console::read_two;
 use console::refuse;
-use console::say_of;
+use console::wipe_progress;
 use console::write_output;
 use ending::say_ending;
 use files::can_replace;
+use files::is_same_file;
+use files::not_written;
 use files::replace;
+use halted::open;
+use halted::put_after;
 use manual::Ended;
 use memory::image_buffer;
-use parts::wipe;
 use reading::NOWHERE;
+use running::run_from;
 use sentences::put_line;
-use start::Start;
-use start::run_from;
-use start::state_argument;
-use state_lines::Line;
-use statuses::FAILED;
 use statuses::Goal;
 
-mod parts; // parts.rt: a long run in parts
-mod start; // start.rt: where a run begins
+mod running; // running.rt: the run of a file
 
 // The arguments that name files.
-const IMAGE: usize = 3;
-
-const AFTER: usize = 4;
-
-// The one with the state to go on from.
-const STATE: usize = 5;
-
-// 64 is the most that a line can have: see `put_line`.
-fn print_line(ended: Ended) -> bool {
-    let mut text = [0u8; 64];
-    let size = put_line(&mut text, 0, ended);
-    write_output(&text[..size])
+struct Names {
+    image: usize,
+    after: usize,
 }
 
-// Keeps the memory after a run only where the line was written and the status is 0.
-fn conclude(goal: Goal, ended: Ended, image: &[u8]) -> u8 {
-    let written = print_line(ended);
-    let status = say_ending(IMAGE, goal, ended, image);
-    if written && status == 0 && replace(AFTER, image) {
-        return 0;
+// How many bytes were read, and the status.
+struct Done {
+    size: usize,
+    status: u8,
+}
+
+// 64 is the most that a line can have: see `put_line`.
+fn print_line(ended: Ended, failed: &mut u8)
+    ensures { λ r. ⌜ FailureStays (now (failed .entry)) (now (failed .exit)) ⌝ }
+{
+    let mut text = [0u8; 64];
+    let size = put_line(&mut text, 0, ended);
+    write_output(&text[..size], failed);
+}
+
+// Keeps a file that a run left. `input` is what was read: only where its status is 0, and only what the definition says.
+fn keep(
+    after: usize,
+    goal: Goal,
+    steps: u64,
+    input: &[u8],
+    status: u8,
+    file: &[u8],
+    failed: &mut u8,
+)
+    requires { ⌜ (status ≡ 0) × (goStatus goal steps (now input) ≡ 0) × (now file ≡ goAfter goal steps (now input)) ⌝ }
+    requires { ⌜ now failed ≡ 0 ⌝ }
+    ensures { λ r. ⌜ FailureStays (now (failed .entry)) (now (failed .exit)) ⌝ }
+{
+    replace(after, status, file, failed);
+}
+
+// Runs what was read, in the copy of it that stands at the start of `image`, and keeps what it leaves there.
+fn go_file(
+    names: Names,
+    goal: Goal,
+    steps: u64,
+    input: &[u8],
+    image: &mut [u8],
+    failed: &mut u8,
+) -> u8
+    requires { ⌜ (take (length (now input)) (now image) ≡ now input) × (length (now input) ≤ length (now image)) × (fullMemory + 41 ≤ length (now image)) ⌝ }
+    ensures { λ r. ⌜ r ≡ firstOf (now (failed .exit)) (goStatus goal steps (now (input .entry))) ⌝ }
+    ensures { λ r. ⌜ FailureStays (now (failed .entry)) (now (failed .exit)) ⌝ }
+{
+    let opened = open(input);
+    let size = opened.size;
+    let start = opened.start;
+    let ended = run_from(start, steps, &mut image[..size]);
+    wipe_progress();
+    print_line(ended, failed);
+    let status = say_ending(names.image, goal, ended, &image[..size], failed);
+    if *failed != 0 {
+        return not_written(names.after, status, failed);
     }
-    say_of(AFTER, b"not written\n");
-    if status == 0 || !written {
-        return FAILED;
+    if status != 0 {
+        return not_written(names.after, status, failed);
+    }
+    let machine = ended.machine;
+    let after_size = put_after(image, goal, machine);
+    keep(
+        names.after,
+        goal,
+        steps,
+        input,
+        status,
+        &image[..after_size],
+        failed,
+    );
+    if *failed != 0 {
+        return not_written(names.after, status, failed);
     }
     status
 }
 
-fn go_image(steps: u64, goal: Goal, start: Start, image: &mut [u8]) -> u8 {
-    let ended = run_from(start, steps, image);
-    wipe();
-    conclude(goal, ended, image)
+// Reads the image into both buffers, tests AFTER before anything is run, and runs it in the second.
+fn go_argument(
+    names: Names,
+    goal: Goal,
+    steps: u64,
+    input: &mut [u8],
+    image: &mut [u8],
+    failed: &mut u8,
+) -> Done
+    requires { ⌜ (length (now input) ≤ length (now image)) × (fullMemory + 41 ≤ length (now image)) ⌝ }
+    ensures { λ r. ⌜ r .status ≡ firstOf (now (failed .exit)) (goStatus goal steps (take (r .size) (now (input .exit)))) ⌝ }
+{
+    let size = read_two(names.image, input, image, failed);
+    if *failed != 0 {
+        return Done {
+            size: size,
+            status: *failed,
+        };
+    }
+    can_replace(names.after, failed);
+    if *failed != 0 {
+        return Done {
+            size: size,
+            status: *failed,
+        };
+    }
+    let status = go_file(names, goal, steps, &input[..size], image, failed);
+    Done {
+        size: size,
+        status: status,
+    }
 }
 
-fn go(steps: u64, goal: Goal, start: Start) -> u8 {
+fn go(names: Names, steps: u64, goal: Goal) -> u8 {
+    if is_same_file(names.after, names.image) {
+        return refuse(b"go: AFTER is IMAGE, which would be lost; name another file\n");
+    }
+    let mut input = image_buffer();
     let mut image = image_buffer();
-    let input = read_input(IMAGE, &mut image);
-    if input.status != 0 {
-        return input.status;
-    }
-    if !can_replace(AFTER) {
-        return FAILED;
-    }
-    let size = input.size;
-    go_image(steps, goal, start, &mut image[..size])
+    let mut failed = 0;
+    let done = go_argument(names, goal, steps, &mut input, &mut image, &mut failed);
+    done.status
 }
 
-fn go_by_start(start: Start) -> u8 {
+fn go_by_goal(names: Names) -> u8 {
     let steps = count_argument(1);
     if steps.next == NOWHERE {
         return refuse(b"go: STEPS is a decimal number below 18446744073709551616\n");
     }
     if argument_is(2, b"-") {
-        return go(steps.value, Goal::AllSteps, start);
+        return go(names, steps.value, Goal::AllSteps);
     }
     let address = address_argument(2);
     if address.next == NOWHERE {
         return refuse(b"go: STOP is an address, four capital hexadecimal digits, or -\n");
     }
-    go(steps.value, Goal::At(address.value), start)
+    go(names, steps.value, Goal::At(address.value))
 }
 
 fn go_by_arguments() -> u8 {
-    let count = os::arg_count();
-    if count < 5
-        || 6 < count
-        || has_option(IMAGE)
-        || argument_is(AFTER, b"-")
-        || argument_is(AFTER, b"")
+    let image = names_from(3);
+    let after = image + 1;
+    if image == 0
+        || os::arg_count() != after + 1
+        || argument_is(after, b"-")
+        || argument_is(after, b"")
     {
-        return refuse(
-            b"go: give STEPS STOP IMAGE AFTER, and STATE to go on from; ./run go --help\n",
-        );
+        return refuse(b"go: give STEPS STOP IMAGE AFTER; ./run go --help\n");
     }
-    if count == 5 {
-        return go_by_start(Start::Image);
-    }
-    let line = state_argument(STATE);
-    match line {
-        Line::State(spelled) => {
-            let machine = spelled.machine;
-            go_by_start(Start::From(machine))
-        }
-        Line::Malformed => refuse(
-            b"go: STATE is the last seven fields of a line, in one word: 'CYCLES COUNTER A X Y S STATUS'\n",
-        ),
-    }
+    go_by_goal(Names {
+        image: image,
+        after: after,
+    })
 }
 
 fn main() {

@@ -7,7 +7,13 @@ use lib.ListN.{length, take, drop, length-append}
 use lib.Seq.{sets-eq, take-at, length-take-le}
 use borrow.Author.Tests.{eq-eqb, ne-eqb}
 use Rattle.text.specs.Written.{Wrote}
+use Rattle.manual.specs.declared.Machine.{Machine}
+use Rattle.manual.specs.declared.Reason.the-variants.{MemoryNotFull}
+use Rattle.manual.specs.Outcomes.{ended}
 use Rattle.manual.specs.Stepping.{fullMemory}
+use Rattle.statuses.specs.declared.Goal.{Goal}
+use Rattle.statuses.specs.declared.Goal.the-variants.{Unnamed, At, AllSteps}
+use Rattle.statuses.specs.Statuses.{reached, endStatus}
 use Rattle.state_lines.specs.declared.Line.{Line}
 use Rattle.state_lines.specs.declared.Line.the-variants.{State, Malformed}
 use Rattle.state_lines.specs.declared.Spelled.{Spelled}
@@ -50,3 +56,10 @@ after-memory {l} {t} {l′} {n} w h =
       rw (w .bytes, sets-eq t l fullMemory h, size) (take-at (take fullMemory l ++ t) (drop (fullMemory + length t) l) _ refl),
       omega (arith, w .ends, w .fits),
     )
+
+-- A memory that is not whole has no status 0: nothing is kept of it.
+pub short-refused : (goal : Goal) (s : Machine) → endStatus goal (ended MemoryNotFull 0 s) ≡ 1
+unfolding endStatus reached
+short-refused Unnamed s = refl
+short-refused (At address) s = refl
+short-refused AllSteps s = refl

@@ -1,6 +1,6 @@
 // Prints a paper tape as Intel HEX, record for record.
 //
-// run hex [TAPE]
+// run hex [--] [TAPE]
 //
 // The tape is a file of fewer than 1,048,576 characters, or standard input where it is `-` or none is named. Each data record
 // keeps its address and its data, CR LF stands after each record, and the end record is `:00000001FF`. A tape that is refused
@@ -11,21 +11,19 @@
 // stands there; 6 it has a wrong sum; 7 it goes past FFFF; 8 there is no end record, or it has a wrong number; 10 the tape is
 // too long for this program, or its HEX; 64 wrong usage, 66 the tape cannot be opened, 74 reading or writing failed.
 //
-// What is written and what is said are promised by the crates moving and loading; here it is only read and written.
+// What is written and what is said are promised by the crates moving and loading; the status is promised by exchange.
 use console::hand_over;
-use console::has_option;
+use console::names_from;
 use console::refuse;
 use exchange::move_argument;
 use loading::Format;
 
-// The argument that names the tape.
-const TAPE: usize = 1;
-
 fn hex_by_arguments() -> u8 {
-    if TAPE + 1 < os::arg_count() || has_option(TAPE) {
+    let index = names_from(1);
+    if index == 0 || index + 1 < os::arg_count() {
         return refuse(b"hex: name one tape, or none for standard input; ./run hex --help\n");
     }
-    move_argument(TAPE, Format::Tape)
+    move_argument(index, Format::Tape)
 }
 
 fn main() {

@@ -12,7 +12,7 @@ use Rattle.text.specs.Laws.{decimal-length, within}
 use Rattle.loading.specs.declared.Format.{Format}
 use Rattle.loading.specs.declared.Format.the-variants.{Tape, Hex}
 use Rattle.loading.specs.declared.Verdict.{Verdict}
-use Rattle.loading.specs.Sentence.{malformed, unended, reason, goodSentence, badSentence, sentence}
+use Rattle.loading.specs.Sentence.{malformed, unended, reason, goodSentence, goodRecords, badSentence, sentence}
 
 -- the longest reason
 abbrev pub longest : Format → ℕ
@@ -49,6 +49,13 @@ module _ (f : Format) (v : Verdict) (good< : v .good < 18446744073709551616) (pl
         length-append (decimal (v .good)) (characters " records are good, the end record counted\n"),
       )
 
+  records-length : length (goodRecords (v .good)) ≤ 18
+  records-length = by-number (eqb (v .good) 1)
+    where
+      by-number : (t : Bool) → length (cond t (characters " good record and ") (characters " good records and ")) ≤ 18
+      by-number true = omega arith
+      by-number false = omega arith
+
   bad-length : length (badSentence f v) ≤ 85 + longest f
   bad-length =
       omega (
@@ -56,10 +63,11 @@ module _ (f : Format) (v : Verdict) (good< : v .good < 18446744073709551616) (pl
         decimal-length 19 (v .good) (omega arith),
         decimal-length 19 (v .place) (omega arith),
         reason-length f (v .answer),
-        length-append (decimal (v .good)) (characters " good records and "),
-        length-append (decimal (v .good) ++ characters " good records and ") (decimal (v .place)),
-        length-append (decimal (v .good) ++ characters " good records and " ++ decimal (v .place)) (characters " characters: "),
-        length-append (decimal (v .good) ++ characters " good records and " ++ decimal (v .place) ++ characters " characters: ") (reason f (v .answer)),
+        records-length,
+        length-append (decimal (v .good)) (goodRecords (v .good)),
+        length-append (decimal (v .good) ++ goodRecords (v .good)) (decimal (v .place)),
+        length-append (decimal (v .good) ++ goodRecords (v .good) ++ decimal (v .place)) (characters " characters: "),
+        length-append (decimal (v .good) ++ goodRecords (v .good) ++ decimal (v .place) ++ characters " characters: ") (reason f (v .answer)),
       )
 
   pub sentence-length : length (sentence f v) ≤ 85 + longest f

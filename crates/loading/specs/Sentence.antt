@@ -28,9 +28,12 @@ reason f answer =
 abbrev pub goodSentence : ℕ → List ℕ
 goodSentence good = characters "done: all " ++ decimal good ++ characters " records are good, the end record counted\n"
 
+abbrev pub goodRecords : ℕ → List ℕ
+goodRecords good = cond (eqb good 1) (characters " good record and ") (characters " good records and ")
+
 abbrev pub badSentence : Format → Verdict → List ℕ
 badSentence f v =
-    characters "refused after " ++ decimal (v .good) ++ characters " good records and " ++ decimal (v .place) ++ characters " characters: "
+    characters "refused after " ++ decimal (v .good) ++ goodRecords (v .good) ++ decimal (v .place) ++ characters " characters: "
     ++ reason f (v .answer)
 
 unfoldable pub sentence : Format → Verdict → List ℕ

@@ -1,7 +1,7 @@
 // What a reader found, in words.
 ghost use Prim.Native.Nat.{_+_, _≤_};
 ghost use Rattle.text.specs.Written.{Wrote};
-ghost use Rattle.loading.specs.Sentence.{malformed, unended, reason, goodSentence, badSentence, sentence};
+ghost use Rattle.loading.specs.Sentence.{malformed, unended, reason, goodSentence, goodRecords, badSentence, sentence};
 use crate::Format;
 use crate::Verdict;
 use text::put_decimal;
@@ -59,12 +59,21 @@ fn put_good(out: &mut [u8], at: usize, good: u64) -> usize
     )
 }
 
+fn put_good_records(out: &mut [u8], at: usize, good: u64) -> usize
+    ensures { λ r. ⌜ Wrote (now (out .entry)) at (goodRecords good) (now (out .exit)) r ⌝ }
+{
+    if good == 1 {
+        return put_text(out, at, b" good record and ");
+    }
+    put_text(out, at, b" good records and ")
+}
+
 fn put_bad(out: &mut [u8], at: usize, format: Format, verdict: Verdict) -> usize
     ensures { λ r. ⌜ Wrote (now (out .entry)) at (badSentence format verdict) (now (out .exit)) r ⌝ }
 {
     let after_refused = put_text(out, at, b"refused after ");
     let after_good = put_decimal(out, after_refused, verdict.good);
-    let after_records = put_text(out, after_good, b" good records and ");
+    let after_records = put_good_records(out, after_good, verdict.good);
     let after_place = put_decimal(out, after_records, verdict.place as u64);
     let after_characters = put_text(out, after_place, b" characters: ");
     put_reason(out, after_characters, format, verdict.answer)

@@ -7,16 +7,23 @@ use Rattle.laws.specs.Characters.{characters}
 use Rattle.text.specs.Numerals.{decimal}
 use Rattle.rescuing.specs.declared.Rescued.{Rescued}
 
-abbrev pub keptSentence : ℕ → List ℕ
-keptSentence kept = characters "nothing was dropped: " ++ decimal kept ++ characters " records are kept\n"
+abbrev pub keptRecords : ℕ → List ℕ
+keptRecords kept = decimal kept ++ cond (eqb kept 1) (characters " record is kept") (characters " records are kept")
+
+-- where a reader takes the old tape, nothing stands between records; where it does not, something may have been one
+abbrev pub keptSentence : ℕ → ℕ → List ℕ
+keptSentence kept read =
+    cond (eqb read 0) (characters "nothing was dropped: " ++ keptRecords kept ++ characters "\n")
+    (keptRecords kept ++ characters "; something between records may have been one, or one is missing\n")
 
 abbrev pub lostSentence : ℕ → ℕ → ℕ → List ℕ
 lostSentence kept dropped first =
-    characters "torn: " ++ decimal kept ++ characters " records are kept, " ++ decimal dropped ++ characters " dropped, the first after " ++ decimal first
+    characters "torn: " ++ keptRecords kept ++ characters ", " ++ decimal dropped ++ characters " dropped, the first after " ++ decimal first
     ++ characters " characters\n"
 
-unfoldable pub sentence : Rescued → List ℕ
-sentence r =
+-- `read` is what a reader answers to the old tape
+unfoldable pub sentence : Rescued → ℕ → List ℕ
+sentence r read =
     cond (eqb (r .answer) 8) (characters "refused: more than 65535 records could be kept\n")
     (cond (eqb (r .answer) 10) (characters "refused: what could be kept is longer than the buffer\n")
-    (cond (eqb (r .dropped) 0) (keptSentence (r .kept)) (lostSentence (r .kept) (r .dropped) (r .first))))
+    (cond (eqb (r .dropped) 0) (keptSentence (r .kept) read) (lostSentence (r .kept) (r .dropped) (r .first))))

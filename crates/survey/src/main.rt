@@ -1,6 +1,6 @@
 // Prints a line about each paper tape: whether it is good, and what a rescue would keep of it.
 //
-// run survey [TAPE...]
+// run survey [--] [TAPE...]
 //
 // A tape is a file of fewer than 1,048,576 characters, or standard input where it is `-` or none is named. Its line has
 // seven decimal numbers. Three are the reader's: its answer, the good records before the first bad one, and the characters
@@ -13,10 +13,15 @@
 // has no line; 64 wrong usage, 66 a tape cannot be opened, 74 reading or writing failed. Of several tapes the first status
 // that is not 0; every one that can be read is looked at.
 //
-// What the line and the sentence say is promised by line.rt and the crates loading and rescuing.
+// What the line and the sentence say is promised by line.rt and the crates loading and rescuing, and the status by the functions below.
+ghost use mathlib.Core.Path.{_≡_};
+ghost use lib.ListN.{take};
+ghost use Rattle.statuses.specs.Statuses.{firstOf};
+ghost use Rattle.console.specs.Failing.{FailureStays};
+ghost use Rattle.tapes.specs.Tapes.{tapeOf};
 use crate::line::put_line;
 use console::hand_over;
-use console::has_option;
+use console::names_from;
 use console::refuse;
 use console::write_output;
 use loading::Format;
@@ -24,7 +29,6 @@ use loading::Verdict;
 use loading::judge_tape;
 use rescuing::Rescued;
 use rescuing::rescue;
-use statuses::FAILED;
 use statuses::first_of;
 use tape_input::read_tape_input;
 use tape_input::say_verdict;
@@ -32,11 +36,19 @@ use tapes::tape_buffer;
 
 mod line; // line.rt: the line of a tape
 
+// How many characters were read, and the status.
+struct Done {
+    size: usize,
+    status: u8,
+}
+
 // 113 is the most that a line can have: see `put_line`.
-fn print_line(verdict: Verdict, rescued: Rescued) -> bool {
+fn print_line(verdict: Verdict, rescued: Rescued, failed: &mut u8)
+    ensures { λ r. ⌜ FailureStays (now (failed .entry)) (now (failed .exit)) ⌝ }
+{
     let mut text = [0u8; 113];
     let size = put_line(&mut text, 0, verdict, rescued);
-    write_output(&text[..size])
+    write_output(&text[..size], failed);
 }
 
 fn rescue_for_counts(tape: &[u8]) -> Rescued {
@@ -44,40 +56,56 @@ fn rescue_for_counts(tape: &[u8]) -> Rescued {
     rescue(tape, &mut text)
 }
 
-fn survey_tape(index: usize, tape: &[u8]) -> u8 {
+// Surveys a tape, and answers its status.
+fn survey_tape(index: usize, tape: &[u8], failed: &mut u8) -> u8
+    ensures { λ r. ⌜ r ≡ firstOf (now (failed .exit)) (tapeOf (now (tape .entry)) .answer) ⌝ }
+{
     let verdict = judge_tape(tape);
     let rescued = rescue_for_counts(tape);
-    let written = print_line(verdict, rescued);
-    say_verdict(index, Format::Tape, verdict);
-    if written {
-        return verdict.answer;
-    }
-    FAILED
+    print_line(verdict, rescued, failed);
+    say_verdict(index, Format::Tape, verdict, failed);
+    first_of(*failed, verdict.answer)
 }
 
-// Surveys the tape that an argument names, and answers its status.
-fn survey_argument(index: usize) -> u8 {
-    let mut tape = tape_buffer();
-    let input = read_tape_input(index, &mut tape);
-    if input.status != 0 {
-        return input.status;
+// Surveys the tape that an argument names. The buffer is lent, so that the promise can name what was read.
+fn survey_argument(index: usize, tape: &mut [u8], failed: &mut u8) -> Done
+    ensures { λ r. ⌜ r .status ≡ firstOf (now (failed .exit)) (tapeOf (take (r .size) (now (tape .exit))) .answer) ⌝ }
+{
+    let size = read_tape_input(index, tape, failed);
+    if *failed != 0 {
+        return Done {
+            size: size,
+            status: *failed,
+        };
     }
-    let size = input.size;
-    survey_tape(index, &tape[..size])
+    let status = survey_tape(index, &tape[..size], failed);
+    Done {
+        size: size,
+        status: status,
+    }
+}
+
+// Surveys one tape in a buffer of its own.
+fn survey_one(index: usize) -> u8 {
+    let mut tape = tape_buffer();
+    let mut failed = 0;
+    let done = survey_argument(index, &mut tape, &mut failed);
+    done.status
 }
 
 fn survey_all() -> u8 {
-    if has_option(1) {
+    let from = names_from(1);
+    if from == 0 {
         return refuse(b"survey: name tapes, or none for standard input; ./run survey --help\n");
     }
     let count = os::arg_count();
-    if count <= 1 {
-        return survey_argument(1);
+    if count <= from {
+        return survey_one(from);
     }
     let mut status = 0;
-    let mut index = 1;
+    let mut index = from;
     while index < count {
-        status = first_of(status, survey_argument(index));
+        status = first_of(status, survey_one(index));
         index += 1;
     }
     status

@@ -1,6 +1,6 @@
 // Prints Intel HEX as a paper tape, record for record.
 //
-// run tape [HEX]
+// run tape [--] [HEX]
 //
 // HEX is a file of fewer than 1,048,576 characters, or standard input where it is `-` or none is named. It has records of the
 // types 00 and 01 alone, in capital digits. Each data record keeps its address and its data, CR LF stands after each record,
@@ -12,23 +12,21 @@
 // 8 there is no end record, or there are more than 65,535 data records; 10 it is too long for this program, or its tape;
 // 64 wrong usage, 66 it cannot be opened, 74 reading or writing failed.
 //
-// What is written and what is said are promised by the crates moving and loading; here it is only read and written.
+// What is written and what is said are promised by the crates moving and loading; the status is promised by exchange.
 use console::hand_over;
-use console::has_option;
+use console::names_from;
 use console::refuse;
 use exchange::move_argument;
 use loading::Format;
 
-// The argument that names the HEX.
-const HEX: usize = 1;
-
 fn tape_by_arguments() -> u8 {
-    if HEX + 1 < os::arg_count() || has_option(HEX) {
+    let index = names_from(1);
+    if index == 0 || index + 1 < os::arg_count() {
         return refuse(
             b"tape: name one file of Intel HEX, or none for standard input; ./run tape --help\n",
         );
     }
-    move_argument(HEX, Format::Hex)
+    move_argument(index, Format::Hex)
 }
 
 fn main() {

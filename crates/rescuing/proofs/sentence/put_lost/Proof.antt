@@ -8,16 +8,9 @@ use Rattle.rescuing.proofs.sentence.put_lost.Tie as tie
 
 returns : tie.Need-returns
 returns c =
-    let c₂ = c .before .before in
-    let c₇ = c₂ .before .before .before .before .before in
-    let c₁₁ = c₇ .before .before .before .before in
-    let c₁₆ = c₁₁ .before .before .before .before .before in
-    let c₂₀ = c₁₆ .before .before .before .before in
-    let c₂₅ = c₂₀ .before .before .before .before .before in
-    let c₂₉ = c₂₅ .before .before .before .before in
-    let s = c₂₉ .before .before .before .before in
-    let records = then (then (c₂₉ .put-text .ensures) (c₂₅ .put-decimal .ensures)) (c₂₀ .put-text2 .ensures) in
-    let wrote = then (then (then (then records (c₁₆ .put-decimal2 .ensures)) (c₁₁ .put-text3 .ensures)) (c₇ .put-decimal3 .ensures)) (c₂ .put-text4 .ensures) in
+    let s = c .before .before .before .before .before .before .before .before .before .before .before .before .before .before .before .before .before .before .before .before .before .before .before .before .before .before .before .before .before .before .before .before .before in
+    let records = then (then (c .before .before .before .before .before .before .before .before .before .before .before .before .before .before .before .before .before .before .before .before .before .before .before .before .before .before .before .before .before .put-text .ensures) (c .before .before .before .before .before .before .before .before .before .before .before .before .before .before .before .before .before .before .before .before .before .before .before .before .before .put-kept-records .ensures)) (c .before .before .before .before .before .before .before .before .before .before .before .before .before .before .before .before .before .before .before .before .put-text2 .ensures) in
+    let wrote = then (then (then (then records (c .before .before .before .before .before .before .before .before .before .before .before .before .before .before .before .before .put-decimal .ensures)) (c .before .before .before .before .before .before .before .before .before .before .before .put-text3 .ensures)) (c .before .before .before .before .before .before .before .put-decimal2 .ensures)) (c .before .before .put-text4 .ensures) in
     (wrote, within wrote (lost-length (s .args .kept) (s .args .dropped) (s .args .first) (omega (arith, s)) (omega (arith, s)) (omega (arith, s))))
 
 pub put-lost-spec : {M : Type 1} → statement M

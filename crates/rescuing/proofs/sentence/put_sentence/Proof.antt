@@ -27,7 +27,7 @@ returns-3 c =
     let c₂ = c .before .before in
     let c₄ = c₂ .before .before in
     let c₆ = c₄ .before .before in
-    rw (ne-eqb _ _ (c₆ .before .before .if1 .left), ne-eqb _ _ (c₆ .if2 .left), eq-eqb _ _ (c₄ .if3 .taken)) (c₂ .put-all-kept .ensures)
+    rw (ne-eqb _ _ (c₆ .before .before .if1 .left), ne-eqb _ _ (c₆ .if2 .left), eq-eqb _ _ (c₄ .if3 .taken)) (c₂ .put-none-dropped .ensures)
 
 returns-4 : tie.Need-returns-4
 unfolding sentence
