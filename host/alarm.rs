@@ -1,4 +1,4 @@
-//! alarm ARCHIVE: counts what the compiler left of the port, and fails where a bound is passed.
+//! alarm ARCHIVE STEP: counts what the compiler left of the port, and fails where a bound is passed.
 //! alarm LOOP WAY STEPS: makes so many steps of a loop in one of the ways, by number, under valgrind, which counts.
 
 mod states;
@@ -8,15 +8,13 @@ use std::process::{Command, ExitCode};
 
 use oracle::loops;
 
-/// The functions besides the exported ones: the loop with all that a step does in it.
+/// The functions besides the exported ones: the loop with all that a step does in it. A step by itself has none.
 const MOST_FUNCTIONS: usize = 1;
-/// The host's instructions a step, by loop and by way: about a fifth above what was counted when they were set. What is
-/// to be noticed costs a factor of two or more. That of the watched run is another: four times what was counted for a run,
-/// since a quarter of a run's rate is asked of it.
+/// The host's instructions a step, by loop and by way: a tenth above what was counted when they were set.
 const MOST_INSTRUCTIONS: [[f64; 5]; 3] = [
-    [49.0, 49.0, 220.0, 281.0, 162.0],
-    [65.0, 65.0, 236.0, 297.0, 216.0],
-    [45.0, 45.0, 217.0, 278.0, 151.0],
+    [28.0, 28.0, 182.0, 238.0, 116.0],
+    [40.0, 40.0, 195.0, 251.0, 123.0],
+    [23.5, 23.5, 179.0, 235.0, 95.0],
 ];
 /// The difference of the two leaves out what happens before and after the steps.
 const STEPS: [u64; 2] = [20_000, 120_000];
@@ -43,9 +41,9 @@ fn said(command: &mut Command) -> Result<String, Fault> {
     }
 }
 
-/// The functions in the archive that a host cannot call.
-fn functions(archive: &str) -> Result<Vec<String>, Fault> {
-    let said = said(Command::new("nm").args(["--defined-only", archive]))?;
+/// The functions in the two archives that a host cannot call.
+fn functions(archives: [&str; 2]) -> Result<Vec<String>, Fault> {
+    let said = said(Command::new("nm").arg("--defined-only").args(archives))?;
     let mut exported = 0;
     let mut left = Vec::new();
     for line in said.lines() {
@@ -56,7 +54,10 @@ fn functions(archive: &str) -> Result<Vec<String>, Fault> {
         }
     }
     if exported == 0 {
-        return Err(Fault::Tool(format!("nm {archive}: no function mos6502_..")));
+        return Err(Fault::Tool(format!(
+            "nm {}: no function mos6502_..",
+            archives.join(" ")
+        )));
     }
     Ok(left)
 }
@@ -88,9 +89,9 @@ fn mark_of(is_passed: bool, passed: &mut usize) -> &'static str {
     if is_passed { "!" } else { "" }
 }
 
-fn alarm(archive: &str) -> Result<(), Fault> {
+fn alarm(archives: [&str; 2]) -> Result<(), Fault> {
     let mut passed = 0;
-    let left = functions(archive)?;
+    let left = functions(archives)?;
     let most = MOST_FUNCTIONS;
     let mark = mark_of(left.len() > most, &mut passed);
     println!(
@@ -105,7 +106,7 @@ fn alarm(archive: &str) -> Result<(), Fault> {
         for (way, most) in (0..).zip(bounds) {
             let count = instructions_a_step(number, way)?;
             let mark = mark_of(count > most, &mut passed);
-            print!("{:>18}", format!("{count:.1} of {most:.0}{mark}"));
+            print!("{:>18}", format!("{count:.1} of {most}{mark}"));
         }
         println!();
     }
@@ -126,8 +127,8 @@ fn make(program: usize, way: usize, steps: u64) -> Result<(), String> {
 
 fn main() -> ExitCode {
     let words: Vec<String> = std::env::args().skip(1).collect();
-    if let [archive] = &words[..] {
-        return match alarm(archive) {
+    if let [archive, step] = &words[..] {
+        return match alarm([archive, step]) {
             Ok(()) => ExitCode::SUCCESS,
             Err(Fault::Passed(count)) => {
                 println!("bounds passed: {count}");

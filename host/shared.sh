@@ -79,7 +79,7 @@ renew() {
     fi
 }
 
-# The port's archive, where none is given.
+# The port's archive, where none is given, and `step`, that of a step by itself.
 find_archive() {
     if [ -z "$archive" ]; then
         case $machine in
@@ -89,6 +89,8 @@ find_archive() {
         renew "$archive" "$builder"
     fi
     [ -f "$archive" ] || stop 2 "there is no archive $archive"
+    find_other step_c
+    step=$found
 }
 
 build_port() {
@@ -101,7 +103,7 @@ program() {
     program=$1
     shift
     rust "$program" "host/$program.rs" "$@" --extern mos6502="$out/libmos6502.rlib" --extern oracle="$out/liboracle.rlib" \
-        --extern saxundeer="$out/libsaxundeer.rlib" -C link-arg="$archive"
+        --extern saxundeer="$out/libsaxundeer.rlib" -C link-arg="$archive" -C link-arg="$step"
 }
 
 # build_tapes ARCHIVE: the program that compares the tapes with srecord. It sets `tapes` to the archive, which is the proved

@@ -3,7 +3,8 @@
  * the answer of the last step: 0 where all were made.
  *
  *     rt staticlib mos6502
- *     cc -I host host/examples/steps.c target/staticlib/libmos6502.a -o target/steps
+ *     rt staticlib step_c
+ *     cc -I host host/examples/steps.c target/staticlib/libstep_c.a target/staticlib/libmos6502.a -o target/steps
  *     target/steps 20 crates/report/data/for-ever.img
  */
 #include <inttypes.h>

@@ -1,8 +1,8 @@
 //! Links the proved archive. It is the one that SAXUNDEER_ARCHIVE names, or else target/staticlib/libmos6502.a of the
 //! repository, which `rt staticlib mos6502` proves and writes here where it is missing. An archive that is there is taken
-//! as it is: to follow a change of the core, run that command. With the feature `tapes` libtapes_c.a is linked too, with
-//! `traces` libtraces_c.a, and with `watch` libwatch_c.a and libfootprint_c.a; each stands beside the first one, or is written
-//! by `rt staticlib`.
+//! as it is: to follow a change of the core, run that command. libstep_c.a is linked too, with the feature `tapes`
+//! libtapes_c.a, with `traces` libtraces_c.a, and with `watch` libwatch_c.a and libfootprint_c.a; each stands beside the first
+//! one, or is written by `rt staticlib`.
 
 use std::env;
 use std::path::{Path, PathBuf};
@@ -24,13 +24,15 @@ fn link_all() -> Result<(), String> {
     let given = env::var_os("SAXUNDEER_ARCHIVE").map(PathBuf::from);
     link("mos6502", given.clone())?;
     let others = [
-        ("TAPES", "tapes_c"),
-        ("TRACES", "traces_c"),
-        ("WATCH", "watch_c"),
-        ("WATCH", "footprint_c"),
+        (None, "step_c"),
+        (Some("TAPES"), "tapes_c"),
+        (Some("TRACES"), "traces_c"),
+        (Some("WATCH"), "watch_c"),
+        (Some("WATCH"), "footprint_c"),
     ];
     for (feature, library) in others {
-        if env::var_os(format!("CARGO_FEATURE_{feature}")).is_some() {
+        let asked = |name| env::var_os(format!("CARGO_FEATURE_{name}")).is_some();
+        if feature.is_none_or(asked) {
             let beside = format!("lib{library}.a");
             link(
                 library,

@@ -1,5 +1,4 @@
 // What the operations that read a byte do with it.
-ghost use mathlib.Core.Bool.{cond};
 ghost use mathlib.Core.Path.{_≡_};
 ghost use Rattle.manual.specs.Instructions.{sum, difference, withOutput, applied};
 use crate::flags::bit_test;
@@ -25,21 +24,16 @@ fn with_output(registers: Registers, output: ArithmeticOutput) -> Registers
     load_accumulator(set_overflow(carried, output.overflow), output.result)
 }
 
-// One of two outputs. Both are worked out before it: without a jump between them the compiler keeps ADC and SBC in line.
-fn pick(first: bool, one: ArithmeticOutput, other: ArithmeticOutput) -> ArithmeticOutput
-    ensures { λ r. ⌜ r ≡ cond first one other ⌝ }
-{
-    if first { one } else { other }
-}
-
 // What ADC gives, decimal where D is set.
 fn sum(value: u8, registers: Registers) -> ArithmeticOutput
     ensures { λ r. ⌜ r ≡ sum value registers ⌝ }
 {
     let carry = registers.status.carry;
-    let decimal = adc_decimal(registers.accumulator, value, carry);
-    let binary = adc_binary(registers.accumulator, value, carry);
-    pick(registers.status.decimal, decimal, binary)
+    if registers.status.decimal {
+        adc_decimal(registers.accumulator, value, carry)
+    } else {
+        adc_binary(registers.accumulator, value, carry)
+    }
 }
 
 // What SBC gives, decimal where D is set.
@@ -47,18 +41,22 @@ fn difference(value: u8, registers: Registers) -> ArithmeticOutput
     ensures { λ r. ⌜ r ≡ difference value registers ⌝ }
 {
     let carry = registers.status.carry;
-    let decimal = sbc_decimal(registers.accumulator, value, carry);
-    let binary = sbc_binary(registers.accumulator, value, carry);
-    pick(registers.status.decimal, decimal, binary)
+    if registers.status.decimal {
+        sbc_decimal(registers.accumulator, value, carry)
+    } else {
+        sbc_binary(registers.accumulator, value, carry)
+    }
 }
 
-fn add_with_carry(registers: Registers, value: u8) -> Registers
+// ADC.
+pub fn add_with_carry(registers: Registers, value: u8) -> Registers
     ensures { λ r. ⌜ r ≡ applied ReadOperation.ADC value registers ⌝ }
 {
     with_output(registers, sum(value, registers))
 }
 
-fn subtract_with_carry(registers: Registers, value: u8) -> Registers
+// SBC.
+pub fn subtract_with_carry(registers: Registers, value: u8) -> Registers
     ensures { λ r. ⌜ r ≡ applied ReadOperation.SBC value registers ⌝ }
 {
     with_output(registers, difference(value, registers))

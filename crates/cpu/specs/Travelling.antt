@@ -1,9 +1,9 @@
 -- Steps on a full memory, and the address that the last of them put out first, which a run drops and a step keeps.
-use Prim.Native.Nat.{ℕ, zero, suc, _+_, _-_, _<_}
+use Prim.Native.Nat.{ℕ, zero, suc, _+_}
 use mathlib.Core.Path.{_≡_, refl, ap, sym, _∙_}
 use mathlib.Core.Bool.{Bool, true, false, cond}
 use mathlib.Core.List.{List}
-use native.Mathlib.Omega.{arith}
+use Rattle.registers.specs.declared.Registers.{Registers}
 use Rattle.manual.specs.declared.Lines.{Lines}
 use Rattle.manual.specs.declared.Machine.{Machine}
 use Rattle.manual.specs.declared.Stepped.{Stepped}
@@ -11,7 +11,7 @@ use Rattle.manual.specs.declared.Ended.{Ended}
 use Rattle.manual.specs.declared.Reason.{Reason}
 use Rattle.manual.specs.declared.Reason.the-variants.{Made, MemoryNotFull, NoCycleRoom, NotAnOpcode, BoundTooHigh}
 use Rattle.manual.specs.Micro.{Micro, done, _>>=_, exec, Gives}
-use Rattle.manual.specs.Outcomes.{isMade, stepped, ended}
+use Rattle.manual.specs.Outcomes.{machineOf, isMade, stepped, ended}
 use Rattle.manual.specs.Stepping.{runWhile, stepFull, runFull}
 use Rattle.manual.specs.Theorems.Programs.{exec-then, exec-bind}
 use Rattle.cpu.specs.declared.Travelled.{Travelled}
@@ -43,17 +43,18 @@ module _ (lines : Lines) (s : Machine) (m : List ℕ) (q : Stepped) (m′ : List
   unfolding travelling
   travel-halts n k first h = exec-then (stepFull lines s) _ m g ∙ rw h
 
-  module _ (bound k first : ℕ) (l : k < bound) where
-    one-more : bound - k ≡ suc (bound - (k + 1))
-    one-more = omega arith
+-- the same numbers
+pub travel-same : {n n′ k k′ c c′ : ℕ} (first : ℕ) (lines : Lines) (r : Registers) (nmi : Bool) (m : List ℕ) → n ≡ n′ → k ≡ k′ → c ≡ c′
+    → exec (travelling n k first lines (machineOf r c nmi)) m ≡ exec (travelling n′ k′ first lines (machineOf r c′ nmi)) m
+travel-same {n} {n′} {k} {k′} {c} {c′} first lines r nmi m e f g =
+    ap (λ (x : ℕ). exec (travelling x k first lines (machineOf r c nmi)) m) e
+    ∙ ap (λ (x : ℕ). exec (travelling n′ x first lines (machineOf r c nmi)) m) f
+    ∙ ap (λ (x : ℕ). exec (travelling n′ k′ first lines (machineOf r x nmi)) m) g
 
-    pub travel-next : isMade (q .reason) ≡ true
-        → exec (travelling (bound - k) k first lines s) m ≡ exec (travelling (bound - (k + 1)) (k + 1) (q .first) lines (q .machine)) m′
-    travel-next h = rw one-more (travel-made (bound - (k + 1)) k first h)
-
-    pub travel-refused : isMade (q .reason) ≡ false
-        → Gives (travelling (bound - k) k first lines s) m (travelled (q .first) (ended (q .reason) k (q .machine))) m′
-    travel-refused h = rw one-more (travel-halts (bound - (k + 1)) k first h)
+-- what the step before put out does not matter where another one follows
+pub travel-first : (n k first : ℕ) (lines : Lines) (s : Machine) → travelling (suc n) k first lines s ≡ travelling (suc n) k 0 lines s
+unfolding travelling
+travel-first n k first lines s = refl
 
 -- ---- a run and a step by it
 

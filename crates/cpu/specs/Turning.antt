@@ -1,5 +1,5 @@
 -- A turn: the service of a line, or as many steps as no line can become due between; and a run by its turns.
-use Prim.Native.Nat.{ℕ, zero, suc, _+_, _-_, _≤_, _<_}
+use Prim.Native.Nat.{ℕ, zero, suc, _+_, _-_, _*_, _/_, _≤_, _<_}
 use mathlib.Core.Path.{_≡_, refl, ap, sym, _∙_}
 use mathlib.Core.Bool.{Bool, true, false, not, cond, _&&_}
 use mathlib.Core.Logic.{_⊎_, inl, inr}
@@ -56,12 +56,21 @@ Calm lines n = (lines .irq ≡ true) ⊎ (n ≡ 1)
 abbrev pub reach : Bool → ℕ → ℕ
 reach irq bound = cond irq bound 1
 
--- the service of a line alone
+-- no step of a turn but its last can pass the highest count: each takes at most seven cycles
+abbrev pub Fits : ℕ → ℕ → Type 0
+Fits cycles n = (0 < n) × (n ≤ 16777216) × (cycles ≤ highestCount → cycles + 7 * (n - 1) ≤ highestCount)
+
+abbrev least : ℕ → ℕ → ℕ
+least a b = cond (ltb a b) a b
+
+abbrev pub fitting : ℕ → ℕ → ℕ
+fitting bound cycles = least bound (least ((highestCount - cycles) / 7 + 1) 16777216)
+
+-- the service of a line alone, for which there is room
 unfoldable pub serving : ℕ → Registers → ℕ → Bool → Micro Travelled
-serving vector r count nmi =
-    cond (ltb highestCount count) (done (travelled 0 (ended NoCycleRoom 0 (machineOf r count nmi)))) (do
-      r₁ ← served vector r
-      done (travelled 0 (ended Made 1 (machineOf r₁ (count + 7) nmi))))
+serving vector r count nmi = do
+  r₁ ← served vector r
+  done (travelled 0 (ended Made 1 (machineOf r₁ (count + 7) nmi)))
 
 -- ---- a turn by what is due
 
@@ -76,28 +85,25 @@ one-of : (d : Due) (n vector : ℕ) → d ≡ Through vector → stretch d n ≡
 one-of (Through v) n vector e = refl
 one-of Quiet n vector e = absurd (not-quiet Quiet vector refl e)
 
-module _ (n : ℕ) (lines : Lines) (s : Machine) (m : List ℕ) (vector : ℕ) (e : due lines s ≡ Through vector) where
-  serve-late : highestCount < s .cycles → exec (turning n lines s) m ≡ exec (serving vector (s .registers) (s .cycles) (lines .nmi)) m
-  unfolding serving
-  serve-late h =
-      turn-gives n lines s m 1 (one-of (due lines s) n vector e) (travel-halts lines s m _ m (step-late lines s m h) 0 0 0 refl)
-      ∙ rw (lt-ltb highestCount (s .cycles) h)
+-- a line that is due is served
+pub turn-serves : (n : ℕ) (lines : Lines) (s : Machine) (m : List ℕ) (vector : ℕ) → due lines s ≡ Through vector → s .cycles ≤ highestCount
+    → exec (turning n lines s) m ≡ exec (serving vector (s .registers) (s .cycles) (lines .nmi)) m
+unfolding serving
+turn-serves n lines s m vector e h =
+    let w = exec (served vector (s .registers)) m in
+    turn-gives n lines s m 1 (one-of (due lines s) n vector e)
+    (travel-made lines s m _ (w .1) (step-serves lines s m vector {r = w .0} h e refl) 0 0 0 refl ∙ travel-end 1 0 lines _ (w .1))
+    ∙ sym (exec-bind (served vector (s .registers)) _ m)
 
-  serve-made : s .cycles ≤ highestCount → exec (turning n lines s) m ≡ exec (serving vector (s .registers) (s .cycles) (lines .nmi)) m
-  unfolding serving
-  serve-made h =
-      let w = exec (served vector (s .registers)) m in
-      turn-gives n lines s m 1 (one-of (due lines s) n vector e)
-      (travel-made lines s m _ (w .1) (step-serves lines s m vector {r = w .0} h e refl) 0 0 0 refl ∙ travel-end 1 0 lines _ (w .1))
-      ∙ rw (le-ltb highestCount (s .cycles) h) (sym (exec-bind (served vector (s .registers)) _ m))
+-- where there is no room, no step is made
+stretch-some : (d : Due) (n : ℕ) → 0 < n → stretch d n ≡ suc (stretch d n - 1)
+stretch-some (Through vector) n l = omega arith
+stretch-some Quiet n l = omega arith
 
-  -- a line that is due is served
-  pub turn-serves : exec (turning n lines s) m ≡ exec (serving vector (s .registers) (s .cycles) (lines .nmi)) m
-  turn-serves = by-room (decLt highestCount (s .cycles))
-    where
-      by-room : Dec (highestCount < s .cycles) → exec (turning n lines s) m ≡ exec (serving vector (s .registers) (s .cycles) (lines .nmi)) m
-      by-room (yes h) = serve-late h
-      by-room (no f) = serve-made (omega arith)
+pub turn-late : (n : ℕ) (lines : Lines) (s : Machine) (m : List ℕ) → 0 < n → highestCount < s .cycles
+    → Gives (turning n lines s) m (travelled 0 (ended NoCycleRoom 0 (levelled (lines .nmi) s))) m
+turn-late n lines s m l h =
+    turn-gives n lines s m _ (stretch-some (due lines s) n l) (travel-halts lines s m _ m (step-late lines s m h) (stretch (due lines s) n - 1) 0 0 refl)
 
 -- nothing is due with IRQ high and a level of NMI that stays
 pub raised-quiet : (nmi : Bool) (r : Registers) (cycles : ℕ) → due (raised nmi) (machineOf r cycles nmi) ≡ Quiet
@@ -227,44 +233,85 @@ pub turn-step : (lines : Lines) (s : Machine) (m : List ℕ) {r : Travelled} {m�
     → Gives (stepFull lines s) m (stepped (r .ended .reason) (r .first) (settled s (r .ended) .machine)) m′
 turn-step lines s m g = travel-step 0 lines s m (rw (one-step (due lines s)) at (turned 1 lines s m g))
 
--- how far a turn goes of n steps
-module _ (lines : Lines) (s : Machine) (n : ℕ) (l : 0 < n) where
-  pub reach-calm : Calm lines (reach (lines .irq) n)
-  reach-calm = by-level (lines .irq) refl
-    where
-      by-level : (irq : Bool) → lines .irq ≡ irq → (lines .irq ≡ true) ⊎ (reach irq n ≡ 1)
-      by-level true e = inl e
-      by-level false e = inr refl
+-- how far a turn goes
+pub reach-calm : (lines : Lines) (n : ℕ) → Calm lines (reach (lines .irq) n)
+reach-calm lines n = by-level (lines .irq) refl
+  where
+    by-level : (irq : Bool) → lines .irq ≡ irq → (lines .irq ≡ true) ⊎ (reach irq n ≡ 1)
+    by-level true e = inl e
+    by-level false e = inr refl
 
+pub reach-some : (irq : Bool) (n : ℕ) → 0 < n → (0 < reach irq n) × (reach irq n ≤ n)
+reach-some true n l = (l, omega arith)
+reach-some false n l = (omega arith, omega arith)
+
+least-some : (a b : ℕ) → (least a b ≤ a) × (least a b ≤ b) × (0 < a → 0 < b → 0 < least a b)
+least-some a b = by-order (decLt a b)
+  where
+    by-order : Dec (a < b) → (least a b ≤ a) × (least a b ≤ b) × (0 < a → 0 < b → 0 < least a b)
+    by-order (yes l) = rw (lt-ltb a b l) (omega arith, omega arith, λ p q. p)
+    by-order (no f) = let l : b ≤ a = omega arith in rw (le-ltb a b l) (l, omega arith, λ p q. q)
+
+pub one-fits : (cycles : ℕ) → Fits cycles 1
+one-fits cycles = (omega arith, omega arith, λ l. omega arith)
+
+pub fitting-fits : (n cycles : ℕ) → 0 < n → Fits cycles (fitting n cycles)
+fitting-fits n cycles l =
+    let room = (highestCount - cycles) / 7 + 1 in
+    let outer = least-some n (least room 16777216) in
+    let inner = least-some room 16777216 in (
+      outer .2 l (inner .2 (omega arith) (omega arith)),
+      omega (arith, outer .1, inner .1),
+      λ h. omega (arith, h, outer .1, inner .0),
+    )
+
+pub fitting-most : (n cycles : ℕ) → fitting n cycles ≤ n
+fitting-most n cycles = least-some n _ .0
+
+-- how far a turn goes of n steps
+abbrev pub going : Lines → ℕ → ℕ → ℕ
+going lines cycles n = reach (lines .irq) (fitting n cycles)
+
+pub going-fits : (lines : Lines) (cycles n : ℕ) → 0 < n → Fits cycles (going lines cycles n)
+going-fits lines cycles n l = by-level (lines .irq)
+  where
+    by-level : (irq : Bool) → Fits cycles (reach irq (fitting n cycles))
+    by-level true = fitting-fits n cycles l
+    by-level false = one-fits cycles
+
+pub going-most : (lines : Lines) (cycles n : ℕ) → 0 < n → going lines cycles n ≤ n
+going-most lines cycles n l = omega (arith, reach-some (lines .irq) (fitting n cycles) (fitting-fits n cycles l .0) .1, fitting-most n cycles)
+
+-- a turn of some of n steps
+module _ (lines : Lines) (s : Machine) (n j : ℕ) (l : 0 < j) (u : j ≤ n) where
   abbrev pub far : ℕ
-  far = stretch (due lines s) (reach (lines .irq) n)
+  far = stretch (due lines s) j
 
   -- it is some of them, and no more
-  pub some : (d : Due) (irq : Bool) → (0 < stretch d (reach irq n)) × (stretch d (reach irq n) ≤ n)
-  some (Through vector) irq = (omega arith, omega arith)
-  some Quiet true = (l, omega arith)
-  some Quiet false = (omega arith, omega arith)
+  pub some : (d : Due) → (0 < stretch d j) × (stretch d j ≤ n)
+  some (Through vector) = (omega arith, omega arith)
+  some Quiet = (l, u)
 
-  module _ (m : List ℕ) {r : Travelled} {m′ : List ℕ} (g : Gives (turning (reach (lines .irq) n) lines s) m r m′) where
+  module _ (m : List ℕ) {r : Travelled} {m′ : List ℕ} (g : Gives (turning j lines s) m r m′) where
     abbrev q : Ended
     q = settled s (r .ended)
 
     gone : Gives (runFull far 0 lines s) m q m′
-    gone = travel-run far 0 0 lines s m (turned (reach (lines .irq) n) lines s m g)
+    gone = travel-run far 0 0 lines s m (turned j lines s m g)
 
     -- it makes no more steps than are left
     pub turn-few : q .steps ≤ n
     turn-few = few (run-ends far lines s m gone)
       where
         few : {p : Ended} {e : List ℕ} → Ends far lines s m p e → p .steps ≤ n
-        few (all-made led) = some (due lines s) (lines .irq) .1
-        few (no-cycle-room l led r) = omega (arith, some (due lines s) (lines .irq) .1)
-        few (not-an-opcode l led r) = omega (arith, some (due lines s) (lines .irq) .1)
+        few (all-made led) = some (due lines s) .1
+        few (no-cycle-room l led r) = omega (arith, some (due lines s) .1)
+        few (not-an-opcode l led r) = omega (arith, some (due lines s) .1)
 
     -- where it was stopped, so is the run
     pub turn-stops : isMade (q .reason) ≡ false → Gives (runFull n 0 lines s) m q m′
     turn-stops f =
-        let e : far + (n - far) ≡ n = omega (arith, some (due lines s) (lines .irq) .1) in
+        let e : far + (n - far) ≡ n = omega (arith, some (due lines s) .1) in
         rw e at (full-stopped far (n - far) lines s m gone (λ h. let z : true ≡ false = ap isMade (sym h) ∙ f in let y : _≡_ {A = ℕ} 0 1 = cc in omega arith))
 
     steps-of : {p : Ended} {e : List ℕ} → Ends far lines s m p e → isMade (p .reason) ≡ true → (p .reason ≡ Made) × (p .steps ≡ far)
@@ -277,8 +324,8 @@ module _ (lines : Lines) (s : Machine) (n : ℕ) (l : 0 < n) where
         → (0 < q .steps) × (exec (runFull n 0 lines s) m ≡ added (q .steps) (exec (runFull (n - q .steps) 0 lines (q .machine)) m′))
     turn-goes h =
         let made = steps-of (run-ends far lines s m gone) h in
-        let e : far + (n - q .steps) ≡ n = omega (arith, made .1, some (due lines s) (lines .irq) .1) in
-        (omega (arith, made .1, some (due lines s) (lines .irq) .0), rw e at (full-lunch far (n - q .steps) lines s m gone (made .0)))
+        let e : far + (n - q .steps) ≡ n = omega (arith, made .1, some (due lines s) .1) in
+        (omega (arith, made .1, some (due lines s) .0), rw e at (full-lunch far (n - q .steps) lines s m gone (made .0)))
 
 -- no step before, and so many before and so many more
 pub added-none : (w : Ended × List ℕ) → w ≡ added 0 w

@@ -1,14 +1,14 @@
 // A step and a bounded run, after single_step and run of cpu.rs.
 ghost use mathlib.Core.Path.{_≡_};
 ghost use mathlib.Core.Bool.{cond};
-ghost use Prim.Native.Nat.{_+_, _≤_, _<_};
+ghost use Prim.Native.Nat.{_+_, _-_, _*_, _≤_, _<_};
 ghost use lib.Dec.{ltb};
 ghost use lib.ListN.{length};
 ghost use Rattle.manual.specs.Micro.{Gives};
 ghost use Rattle.manual.specs.Outcomes.{machineOf, ended};
-ghost use Rattle.manual.specs.Stepping.{fullMemory, highestBound, step, runFull, run, longRun};
+ghost use Rattle.manual.specs.Stepping.{fullMemory, highestCount, highestBound, step, runFull, run, longRun};
 ghost use Rattle.cpu.specs.Travelling.{travelled, travelling};
-ghost use Rattle.cpu.specs.Turning.{raised, serving, Calm, reach, turning};
+ghost use Rattle.cpu.specs.Turning.{raised, serving, Calm, reach, Fits, fitting, turning};
 use manual::Due;
 use manual::Ended;
 use manual::FULL_MEMORY;
@@ -20,13 +20,13 @@ use manual::Reason;
 use manual::Stepped;
 use memory::Address;
 use memory::get_byte;
+use opcode_rows::dispatch;
 use registers::Registers;
 use rows::Dispatched;
+use rows::STEP;
 use stack::serve;
-
-mod dispatching; // dispatching.rt: what an opcode does
-
-pub use dispatching::dispatch;
+use std::num::wrapping_add_u64;
+use std::num::wrapping_sub_u64;
 
 // What a turn leaves: the answer of its steps, and the address that the last of them put out first.
 pub struct Travelled {
@@ -48,51 +48,43 @@ impl Travelled {
 
 // A line is served, which is one step: the last level of NMI becomes `nmi`.
 fn serve_line(vector: u16, start: Registers, count: u64, nmi: bool, memory: &mut [u8]) -> Travelled
-    requires { ⌜ (length (now memory) ≡ fullMemory) × (vector + 1 < 65536) ⌝ }
+    requires { ⌜ (length (now memory) ≡ fullMemory) × (vector + 1 < 65536) × (count ≤ highestCount) ⌝ }
     ensures { λ r. ⌜ Gives (serving vector start count nmi) (now (memory .entry)) r (now (memory .exit)) ⌝ }
 {
-    if HIGHEST_COUNT < count {
-        let left = Machine::new(start, count, nmi);
-        return Travelled::new(Reason::NoCycleRoom, 0, 0, left);
-    }
     let registers = serve(vector, start, memory);
     let left = Machine::new(registers, count + 7, nmi);
     Travelled::new(Reason::Made, 1, 0, left)
 }
 
-// At most `bound` steps on a full memory with IRQ high and NMI at the level that it had before. The compiler puts all that a
-// step does into this loop and keeps the registers in the host's: docs/RATE.md says what that takes. So no line is looked at
-// in it, and the level of NMI is none of its variables.
+// The `bound` steps of a turn on a full memory with IRQ high and NMI at the level that it had before. The compiler puts all that a
+// step does into this loop and keeps the registers in the host's: docs/RATE.md says what that takes. So no line and no room is
+// looked at in it, and one number counts the steps down and the cycles up: `clock` has the steps that follow the next one times
+// STEP, and the cycles that were made.
 fn walk(start: Registers, count: u64, nmi: bool, bound: u64, memory: &mut [u8]) -> Travelled
-    requires { ⌜ length (now memory) ≡ fullMemory ⌝ }
+    requires { ⌜ (length (now memory) ≡ fullMemory) × (0 < bound) × (bound ≤ 16777216) × (count + 7 * (bound - 1) ≤ highestCount) ⌝ }
     ensures { λ r. ⌜ Gives (travelling bound 0 0 (raised nmi) (machineOf start count nmi)) (now (memory .entry)) r (now (memory .exit)) ⌝ }
 {
     let mut registers = start.kept_apart();
-    let mut cycles = count;
-    let mut first: u16 = 0;
-    let mut steps: u64 = 0;
-    while steps < bound {
-        if HIGHEST_COUNT < cycles {
-            let left = Machine::new(registers, cycles, nmi);
-            return Travelled::new(Reason::NoCycleRoom, steps, 0, left);
-        }
+    let mut clock: u64 = (bound - 1) * STEP;
+    loop {
         let opcode = get_byte(memory, Address(registers.counter));
         match dispatch(opcode, registers, memory) {
             Dispatched::Performed(performed) => {
                 let after = performed.registers;
                 registers = after.kept_apart();
-                cycles += performed.cycles as u64;
-                first = performed.first;
-                steps += 1;
+                let next = wrapping_sub_u64(clock, performed.ticks);
+                if clock < performed.ticks {
+                    let left = Machine::new(registers, count + wrapping_add_u64(next, STEP), nmi);
+                    return Travelled::new(Reason::Made, bound, performed.first, left);
+                }
+                clock = next;
             }
             Dispatched::NotAnOpcode => {
-                let left = Machine::new(registers, cycles, nmi);
-                return Travelled::new(Reason::NotAnOpcode, steps, 0, left);
+                let left = Machine::new(registers, count + clock % STEP, nmi);
+                return Travelled::new(Reason::NotAnOpcode, bound - 1 - clock / STEP, 0, left);
             }
         }
     }
-    let left = Machine::new(registers, cycles, nmi);
-    Travelled::new(Reason::Made, steps, first, left)
 }
 
 // How far a turn goes at most: where IRQ is low by one step, for after it I may be clear.
@@ -102,12 +94,39 @@ pub fn reach(irq: bool, bound: u64) -> u64
     if irq { bound } else { 1 }
 }
 
+// The lesser of two numbers.
+fn least(a: u64, b: u64) -> u64
+    ensures { λ r. ⌜ r ≡ cond (ltb a b) a b ⌝ }
+{
+    if a < b { a } else { b }
+}
+
+// The most steps of a turn: more cycles than they take fit below a step on the clock.
+const MOST_STEPS: u64 = 0x100_0000;
+
+// How many of `bound` steps a turn can make before the last of which no count passes the highest one: each takes at most seven
+// cycles. So the loop need not look at the room.
+pub fn fitting(bound: u64, cycles: u64) -> u64
+    ensures { λ r. ⌜ r ≡ fitting bound cycles ⌝ }
+{
+    let room = if cycles <= HIGHEST_COUNT {
+        HIGHEST_COUNT - cycles
+    } else {
+        0
+    };
+    least(bound, least(room / 7 + 1, MOST_STEPS))
+}
+
 // A turn: a line that is due is served, or steps are made, as many as no line can become due between. The machine that it
 // leaves has the present level of NMI, also where no step was made: then it is the one that was given that counts.
 pub fn turn(start: Machine, bound: u64, lines: Lines, memory: &mut [u8]) -> Travelled
-    requires { ⌜ (length (now memory) ≡ fullMemory) × Calm lines bound ⌝ }
+    requires { ⌜ (length (now memory) ≡ fullMemory) × Calm lines bound × Fits (start .cycles) bound ⌝ }
     ensures { λ r. ⌜ Gives (turning bound lines start) (now (memory .entry)) r (now (memory .exit)) ⌝ }
 {
+    if HIGHEST_COUNT < start.cycles {
+        let left = Machine::new(start.registers, start.cycles, lines.nmi);
+        return Travelled::new(Reason::NoCycleRoom, 0, 0, left);
+    }
     let waiting = lines.due(start);
     match waiting {
         Due::Through(vector) => {
@@ -136,7 +155,8 @@ fn travel(start: Machine, bound: u64, lines: Lines, memory: &mut [u8]) -> Ended
     let mut machine = start;
     let mut steps: u64 = 0;
     while steps < bound {
-        let ended = turn(machine, reach(lines.irq, bound - steps), lines, memory).ended;
+        let far = reach(lines.irq, fitting(bound - steps, machine.cycles));
+        let ended = turn(machine, far, lines, memory).ended;
         let reason = ended.reason;
         machine = reached(machine, ended);
         steps += ended.steps;

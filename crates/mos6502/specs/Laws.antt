@@ -26,7 +26,7 @@ use Rattle.cpu.specs.Travelling.{travelled, travelling, travel-run}
 use Rattle.cpu.specs.Turning.{levelled, turning, settles, settled, turned, one-step, turn-step}
 use Rattle.cycles.specs.Lifting.{lift, lifted, lowered, lifted-least, lifted-spent, lifted-unspent}
 use Rattle.numbers.specs.Machines.{machineFrom, linesFrom, registersAfter, cyclesAfter}
-use Rattle.mos6502.specs.Numbers.{StepNumbers, RunNumbers, TurnNumbers, stepNumbers, runNumbers, turnNumbers, stepOnNumbers, runOnNumbers, longRunOnNumbers, runCyclesOnNumbers, runFullOnNumbers, turnOnNumbers}
+use Rattle.mos6502.specs.Numbers.{StepNumbers, RunNumbers, stepNumbers, runNumbers, stepOnNumbers, runOnNumbers, longRunOnNumbers, runCyclesOnNumbers, runFullOnNumbers, turnOnNumbers}
 
 -- a run of one has made a step exactly where it answers so
 one-made : {lines : Lines} {s : Machine} {m : List ℕ} {q : Ended} {m′ : List ℕ} → Ends 1 lines s m q m′ → isMade (q .reason) ≡ ltb 0 (q .steps)
@@ -77,13 +77,13 @@ module _ (lines registers cycles : ℕ) (m : List ℕ) where
   -- ---- on a full memory
 
   pub turn-gives : (bound : ℕ) {w : Travelled} {m′ : List ℕ} → Gives (turning bound present start) m w m′
-      → Gives (turnOnNumbers bound lines registers cycles) m (turnNumbers registers cycles w) m′
+      → Gives (turnOnNumbers bound lines registers cycles) m (runNumbers registers cycles (w .ended)) m′
   unfolding turnOnNumbers
   turn-gives bound g = then (turning bound present start) _ m g refl
 
   -- the turn's own answer is behind the numbers that come back
-  pub turn-of : (bound : ℕ) {v : TurnNumbers} {m′ : List ℕ} → Gives (turnOnNumbers bound lines registers cycles) m v m′
-      → _≡_ {A = TurnNumbers × List ℕ} (turnNumbers registers cycles (exec (turning bound present start) m .0), exec (turning bound present start) m .1) (v, m′)
+  pub turn-of : (bound : ℕ) {v : RunNumbers} {m′ : List ℕ} → Gives (turnOnNumbers bound lines registers cycles) m v m′
+      → _≡_ {A = RunNumbers × List ℕ} (runNumbers registers cycles (exec (turning bound present start) m .0 .ended), exec (turning bound present start) m .1) (v, m′)
   unfolding turnOnNumbers
   turn-of bound g = sym (exec-bind (turning bound present start) _ m) ∙ g
 
@@ -107,15 +107,20 @@ module _ (lines registers cycles : ℕ) (m : List ℕ) where
   unfolding longRunOnNumbers runFullOnNumbers
   long-run-on-full size bound f g = rw (long-whole size bound present start f) g
 
-  -- a step drops the count
-  abbrev pub uncounted : TurnNumbers → StepNumbers
-  uncounted w = record { answer = w .ended .answer; first = w .first; registers = w .ended .registers; cycles = w .ended .cycles }
+  -- what a turn of one leaves
+  abbrev pub oneStep : Travelled → StepNumbers
+  oneStep w = record {
+    answer = number (w .ended .reason);
+    first = w .first;
+    registers = registersAfter (ltb 0 (w .ended .steps)) (w .ended .machine) registers;
+    cycles = cyclesAfter (ltb 0 (w .ended .steps)) (w .ended .machine) cycles;
+  }
 
-  step-of : TurnNumbers × List ℕ → StepNumbers × List ℕ
-  step-of w = (uncounted (w .0), w .1)
+  step-of : Travelled × List ℕ → StepNumbers × List ℕ
+  step-of w = (oneStep (w .0), w .1)
 
-  pub step-on-full : (size : ℕ) {v : TurnNumbers} {m′ : List ℕ} → size ≡ fullMemory → Gives (turnOnNumbers 1 lines registers cycles) m v m′
-      → Gives (stepOnNumbers size lines registers cycles) m (uncounted v) m′
+  pub step-on-full : (size : ℕ) {w : Travelled} {m′ : List ℕ} → size ≡ fullMemory → Gives (turning 1 present start) m w m′
+      → Gives (stepOnNumbers size lines registers cycles) m (oneStep w) m′
   unfolding stepOnNumbers step-of
   step-on-full size f g =
       let w = exec (turning 1 present start) m in
@@ -129,7 +134,7 @@ module _ (lines registers cycles : ℕ) (m : List ℕ) where
       ∙ ap (λ (b : Bool). (record { answer = number (w .0 .ended .reason); first = w .0 .first; registers = registersAfter b (settled start (w .0 .ended) .machine) registers; cycles = cyclesAfter b (settled start (w .0 .ended) .machine) cycles }, w .1)) made
       ∙ ap (λ (k : ℕ). (record { answer = number (w .0 .ended .reason); first = w .0 .first; registers = k; cycles = cyclesAfter t (settled start (w .0 .ended) .machine) cycles }, w .1)) (picked numberOf t (w .0 .ended .machine) start registers)
       ∙ ap (λ (k : ℕ). (record { answer = number (w .0 .ended .reason); first = w .0 .first; registers = registersAfter t (w .0 .ended .machine) registers; cycles = k }, w .1)) (picked countOf t (w .0 .ended .machine) start cycles)
-      ∙ ap step-of (turn-of 1 g)
+      ∙ ap step-of g
 
   -- ---- by cycles, from the numbers of the lifted run
 

@@ -15,9 +15,9 @@ use Rattle.manual.specs.Stepping.{runFull}
 use Rattle.manual.specs.Theorems.StepLaws.{run-end}
 use Rattle.manual.specs.Theorems.Lunch.{added}
 use Rattle.cpu.specs.declared.Travelled.{Travelled}
-use Rattle.cpu.specs.Turning.{reach, turning, settled, turn-few, turn-stops, turn-goes, added-none, added-twice}
+use Rattle.cpu.specs.Turning.{Fits, going, turning, settled, going-fits, going-most, turn-few, turn-stops, turn-goes, added-none, added-twice}
 use Rattle.numbers.specs.Machines.{machineFrom, linesFrom}
-use Rattle.mos6502.specs.Numbers.{TurnNumbers, turnNumbers, turnOnNumbers, runFullOnNumbers}
+use Rattle.mos6502.specs.Numbers.{RunNumbers, runNumbers, turnOnNumbers, runFullOnNumbers}
 use Rattle.mos6502.specs.Laws.{zero-made, other-refused, numberOf, countOf, onward, turn-of, run-gives}
 
 -- Of a run of `bound` steps `total` are made: what is left of it goes on from the numbers, which are as they were given where none is.
@@ -63,36 +63,42 @@ module _ (bound lines registers₀ cycles₀ : ℕ) (m₀ : List ℕ) (total reg
     left = omega arith
 
     abbrev far : ℕ
-    far = reach (present .irq) n
+    far = going present cycles n
+
+    fits : Fits cycles far
+    fits = going-fits present cycles n left
+
+    most : far ≤ n
+    most = going-most present cycles n left
 
     abbrev w : Travelled × List ℕ
     w = exec (turning far present machine) m
 
     -- What a turn makes of it.
-    pub record Turns (v : TurnNumbers) (m′ : List ℕ) : Type 0 where
-      pub few : total + v .ended .steps ≤ bound
-      pub goes : v .ended .answer ≡ 0
-          → (0 < v .ended .steps) × Round bound lines registers₀ cycles₀ m₀ (total + v .ended .steps) (v .ended .registers) (v .ended .cycles) m′
-      pub stops : (v .ended .answer ≡ 0 → ⊥)
-          → Gives (runFullOnNumbers bound lines registers₀ cycles₀) m₀ (record { answer = v .ended .answer; steps = total + v .ended .steps; registers = v .ended .registers; cycles = v .ended .cycles }) m′
+    pub record Turns (v : RunNumbers) (m′ : List ℕ) : Type 0 where
+      pub few : total + v .steps ≤ bound
+      pub goes : v .answer ≡ 0
+          → (0 < v .steps) × Round bound lines registers₀ cycles₀ m₀ (total + v .steps) (v .registers) (v .cycles) m′
+      pub stops : (v .answer ≡ 0 → ⊥)
+          → Gives (runFullOnNumbers bound lines registers₀ cycles₀) m₀ (record { answer = v .answer; steps = total + v .steps; registers = v .registers; cycles = v .cycles }) m′
 
-    abbrev v : TurnNumbers
-    v = turnNumbers registers cycles (w .0)
+    abbrev v : RunNumbers
+    v = runNumbers registers cycles (w .0 .ended)
 
     abbrev q : Ended
     q = settled machine (w .0 .ended)
 
-    registers-on : v .ended .registers ≡ cond (ltb 0 (total + q .steps)) (numberOf (q .machine)) registers₀
+    registers-on : v .registers ≡ cond (ltb 0 (total + q .steps)) (numberOf (q .machine)) registers₀
     registers-on = onward numberOf total (q .steps) registers₀ registers (w .0 .ended .machine) machine (round .numbers)
 
-    cycles-on : v .ended .cycles ≡ cond (ltb 0 (total + q .steps)) (countOf (q .machine)) cycles₀
+    cycles-on : v .cycles ≡ cond (ltb 0 (total + q .steps)) (countOf (q .machine)) cycles₀
     cycles-on = onward countOf total (q .steps) cycles₀ cycles (w .0 .ended .machine) machine (round .count)
 
-    turns : machineFrom (v .ended .registers) (v .ended .cycles) ≡ q .machine → Turns v (w .1)
+    turns : machineFrom (v .registers) (v .cycles) ≡ q .machine → Turns v (w .1)
     turns same = record {
-      few = omega (arith, turn-few present machine n left m {r = w .0} {m′ = w .1} refl);
+      few = omega (arith, turn-few present machine n far (fits .0) most m {r = w .0} {m′ = w .1} refl);
       goes = λ e.
-          let g = turn-goes present machine n left m {r = w .0} {m′ = w .1} refl (zero-made (q .reason) e) in
+          let g = turn-goes present machine n far (fits .0) most m {r = w .0} {m′ = w .1} refl (zero-made (q .reason) e) in
           let less : n - q .steps ≡ bound - (total + q .steps) = omega arith in (
             g .0,
             record {
@@ -107,13 +113,13 @@ module _ (bound lines registers₀ cycles₀ : ℕ) (m₀ : List ℕ) (total reg
           );
       stops = λ f.
           run-gives lines registers₀ cycles₀ m₀ bound
-          (round .rest ∙ ap (added total) (turn-stops present machine n left m {r = w .0} {m′ = w .1} refl (other-refused (q .reason) f)))
+          (round .rest ∙ ap (added total) (turn-stops present machine n far (fits .0) most m {r = w .0} {m′ = w .1} refl (other-refused (q .reason) f)))
           ∙ rw (sym registers-on, sym cycles-on);
     }
 
     -- from what comes back of the turn
-    pub round-turns : {v : TurnNumbers} {m′ : List ℕ} → Gives (turnOnNumbers far lines registers cycles) m v m′
-        → machineFrom (v .ended .registers) (v .ended .cycles) ≡ q .machine
+    pub round-turns : {v : RunNumbers} {m′ : List ℕ} → Gives (turnOnNumbers far lines registers cycles) m v m′
+        → machineFrom (v .registers) (v .cycles) ≡ q .machine
         → Turns v m′
     round-turns g =
-        subst (λ (z : TurnNumbers × List ℕ). machineFrom (z .0 .ended .registers) (z .0 .ended .cycles) ≡ q .machine → Turns (z .0) (z .1)) (turn-of lines registers cycles m far g) turns
+        subst (λ (z : RunNumbers × List ℕ). machineFrom (z .0 .registers) (z .0 .cycles) ≡ q .machine → Turns (z .0) (z .1)) (turn-of lines registers cycles m far g) turns

@@ -1,17 +1,18 @@
-// The core on numbers, for a host in C or Rust: see host/mos6502.h.
+// The core on numbers, for a host in C or Rust: see host/mos6502.h. A step by itself is in `step_c`.
 ghost use mathlib.Core.Path.{_≡_};
 ghost use mathlib.Core.Bool.{true};
+ghost use Prim.Native.Nat.{_<_};
 ghost use lib.ListN.{length};
 ghost use Rattle.registers.specs.State.{registersOf};
 ghost use Rattle.registers.specs.StatusByte.{bit, pushedByte, pulledStatus};
 ghost use Rattle.packing.specs.Packed.{packed, unpacked, unpackedNmi};
 ghost use Rattle.manual.specs.Stepping.{fullMemory};
 ghost use Rattle.manual.specs.Micro.{exec, Gives};
-ghost use Rattle.cpu.specs.Turning.{Calm, turning, settled};
+ghost use Rattle.cpu.specs.Turning.{Calm, Fits, going, turning, settled};
 ghost use Rattle.numbers.specs.Machines.{machineFrom, linesFrom};
 ghost use Rattle.mos6502.specs.Numbers.{runFullOnNumbers, turnOnNumbers};
-ghost use Rattle.mos6502.specs.Calls.{StepCall, RunCall, LongRunCall, CyclesCall};
-use cpu::reach;
+ghost use Rattle.mos6502.specs.Calls.{RunCall, LongRunCall, CyclesCall};
+use cpu::fitting;
 use cpu::turn;
 use cycles::lift;
 use cycles::spent;
@@ -101,26 +102,22 @@ pub extern "C" fn mos6502_nmi(registers: u64) -> u8
     flag(unpack_nmi(registers))
 }
 
-// A turn on numbers. The functions below call this one, and it alone calls `turn`: so the compiler makes one function of the
-// loop and of what stands around it, and no record goes through memory. The numbers are again those of the machine that is left.
+// A turn on numbers. The numbers are again those of the machine that is left. It drops the address that was put out first, so that
+// the compiler leaves it out of the loop.
 fn advance(
     registers: &mut u64,
     cycles: &mut u64,
     steps: &mut u64,
-    first: &mut u16,
     bound: u64,
     lines: u8,
     memory: &mut [u8],
 ) -> u8
-    requires { ⌜ (length (now memory) ≡ fullMemory) × Calm (linesFrom lines) bound ⌝ }
+    requires { ⌜ (length (now memory) ≡ fullMemory) × Calm (linesFrom lines) bound × Fits (now cycles) bound ⌝ }
     ensures { λ r.
         ⌜ Gives
         (turnOnNumbers bound lines (now (registers .entry)) (now (cycles .entry)))
         (now (memory .entry))
-        (record {
-          first = now (first .exit);
-          ended = record { answer = r; steps = now (steps .exit); registers = now (registers .exit); cycles = now (cycles .exit) };
-        })
+        (record { answer = r; steps = now (steps .exit); registers = now (registers .exit); cycles = now (cycles .exit) })
         (now (memory .exit)) ⌝ }
     ensures { λ r.
         ⌜ machineFrom (now (registers .exit)) (now (cycles .exit))
@@ -135,12 +132,44 @@ fn advance(
         lines_from(lines),
         memory,
     );
-    *first = turned.first;
     let ended = turned.ended;
     let reason = ended.reason;
     *steps = ended.steps;
     hand_back(0 < ended.steps, ended.machine, registers, cycles);
     reason.number()
+}
+
+// A turn of at most `bound` steps on numbers: with IRQ high as many as there is room for, and with IRQ low one. With one call for the
+// two the compiler makes a slower loop (docs/RATE.md).
+fn one_turn(
+    registers: &mut u64,
+    cycles: &mut u64,
+    steps: &mut u64,
+    bound: u64,
+    lines: u8,
+    memory: &mut [u8],
+) -> u8
+    requires { ⌜ (length (now memory) ≡ fullMemory) × (0 < bound) ⌝ }
+    ensures { λ r.
+        ⌜ Gives
+        (turnOnNumbers (going (linesFrom lines) (now (cycles .entry)) bound) lines (now (registers .entry)) (now (cycles .entry)))
+        (now (memory .entry))
+        (record { answer = r; steps = now (steps .exit); registers = now (registers .exit); cycles = now (cycles .exit) })
+        (now (memory .exit)) ⌝ }
+    ensures { λ r.
+        ⌜ machineFrom (now (registers .exit)) (now (cycles .exit))
+        ≡ settled
+        (machineFrom (now (registers .entry)) (now (cycles .entry)))
+        (exec (turning (going (linesFrom lines) (now (cycles .entry)) bound) (linesFrom lines) (machineFrom (now (registers .entry)) (now (cycles .entry)))) (now (memory .entry)) .0 .ended)
+        .machine ⌝ }
+{
+    let present = lines_from(lines);
+    if present.irq {
+        let far = fitting(bound, *cycles);
+        advance(registers, cycles, steps, far, lines, memory)
+    } else {
+        advance(registers, cycles, steps, 1, lines, memory)
+    }
 }
 
 // At most `bound` steps on numbers, turn by turn.
@@ -162,10 +191,8 @@ fn go_on(
 {
     let mut total: u64 = 0;
     let mut made: u64 = 0;
-    let mut first: u16 = 0;
     while total < bound {
-        let far = reach(lines_from(lines).irq, bound - total);
-        let answer = advance(registers, cycles, &mut made, &mut first, far, lines, memory);
+        let answer = one_turn(registers, cycles, &mut made, bound - total, lines, memory);
         total += made;
         if answer != 0 {
             *steps = total;
@@ -174,29 +201,6 @@ fn go_on(
     }
     *steps = total;
     0
-}
-
-// A step with the levels of `lines`: bit 0 is set where NMI is low, bit 1 where IRQ is. A refusal leaves both numbers and the
-// memory as they were; it and a line that is served give 0000 for the address put out first.
-#[no_mangle]
-pub extern "C" fn mos6502_step(
-    registers: &mut u64,
-    cycles: &mut u64,
-    lines: u8,
-    first: &mut u16,
-    memory: &mut [u8],
-) -> u8
-    ensures { λ r.
-        ⌜ StepCall (now (registers .entry)) (now (cycles .entry)) lines (now (memory .entry))
-        (record { answer = r; first = now (first .exit); registers = now (registers .exit); cycles = now (cycles .exit) })
-        (now (memory .exit)) ⌝ }
-{
-    if memory.len() != FULL_MEMORY {
-        *first = 0;
-        return 1;
-    }
-    let mut steps: u64 = 0;
-    advance(registers, cycles, &mut steps, first, 1, lines, memory)
 }
 
 // A run of at most `bound` steps. Where it makes none, both numbers stay as they were.

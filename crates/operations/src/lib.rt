@@ -3,7 +3,7 @@ ghost use mathlib.Core.Path.{_≡_};
 ghost use lib.ListN.{length};
 ghost use Rattle.instruction.specs.Modes.{operandBytes};
 ghost use Rattle.manual.specs.Micro.{done, Gives};
-ghost use Rattle.manual.specs.Branching.{holds, branched};
+ghost use Rattle.manual.specs.Branching.{holds};
 ghost use Rattle.manual.specs.Instructions.{stored, advanced, perform};
 ghost use Rattle.manual.specs.Stepping.{fullMemory};
 use addressing::advanced;
@@ -20,7 +20,6 @@ use instruction::ModifyOperation;
 use instruction::ReadOperation;
 use instruction::StoreOperation;
 use manual::Effect;
-use manual::Target;
 use manual::leaves;
 use manual::leaves_at;
 use memory::Address;
@@ -128,19 +127,7 @@ fn holds(operation: BranchOperation, status: Status) -> bool
     }
 }
 
-// Taken: one cycle more, and another one for another page.
-fn branched(taken: bool, target: Target, registers: Registers) -> Effect
-    ensures { λ r. ⌜ r ≡ branched taken target registers ⌝ }
-{
-    if taken {
-        let after = registers.with_counter(target.address);
-        leaves(after, 1 + flag(target.crossed))
-    } else {
-        leaves(registers, 0)
-    }
-}
-
-// Branches.
+// Branches. Taken: one cycle more, and another one for another page. One that is not taken does not look at its operand.
 pub fn branch(
     operation: BranchOperation,
     mode: AddressingMode,
@@ -150,9 +137,14 @@ pub fn branch(
     requires { ⌜ length (now memory) ≡ fullMemory ⌝ }
     ensures { λ r. ⌜ Gives (perform (Instruction.Branch operation) mode registers) (now (memory .entry)) r (now (memory .entry)) ⌝ }
 {
-    let target = target_of(mode, registers, memory);
     let status = registers.status;
-    branched(holds(operation, status), target, advanced(mode, registers))
+    let past = advanced(mode, registers);
+    if holds(operation, status) {
+        let target = target_of(mode, registers, memory);
+        leaves(past.with_counter(target.address), 1 + flag(target.crossed))
+    } else {
+        leaves(past, 0)
+    }
 }
 
 // The operations on registers and flags alone.

@@ -29,7 +29,7 @@ use Rattle.manual.specs.Theorems.StepLaws.{due-none, step-late, step-undefined,
 use Rattle.footprint.specs.Places.{footprintOf, addresses}
 use Rattle.footprint.specs.Laws.{late-list, due-list}
 use Rattle.footprint.specs.Theorems.{full-kept}
-use Rattle.cpu.specs.Turning.{raised, stretch, Calm, reach, some}
+use Rattle.cpu.specs.Turning.{raised, stretch, Calm, reach, reach-some, some}
 use Rattle.witness.specs.declared.Watched.{Watched}
 use Rattle.witness.specs.declared.Halt.{Halt}
 use Rattle.witness.specs.declared.seals.Seen.{Seen}
@@ -249,7 +249,9 @@ module _ (seal : ℕ → Bool) (bound k : ℕ) (lines : Lines) (s : Machine) (m 
   turnOf = stretch (due lines s) (reach (lines .irq) (bound - k))
 
   some-left : (0 < turnOf) × (turnOf ≤ bound - k)
-  some-left = some lines s (bound - k) (omega arith) (due lines s) (lines .irq)
+  some-left =
+      let far = reach-some (lines .irq) (bound - k) (omega arith) in
+      some lines s (bound - k) (reach (lines .irq) (bound - k)) (far .0) (far .1) (due lines s)
 
   module _ (w : Watched × List ℕ) (g : w ≡ guardedFull seal turnOf k lines s m) where
     turn-onward : guardedFull seal (bound - k) k lines s m ≡ onward seal lines (bound - k - turnOf) w

@@ -9,7 +9,6 @@ ghost use Rattle.manual.specs.Stepping.{fullMemory};
 ghost use Rattle.manual.specs.ReadList.{listedDue};
 ghost use Rattle.cpu.specs.Turning.{raised, Calm, stretch};
 ghost use Rattle.witness.specs.Guarded.{inPages, inStretch, inEither, firstSealed, ran, halted, guardedFull, guarded, longGuarded};
-use cpu::dispatch;
 use cpu::reach;
 use footprint::reads_quiet;
 use footprint::reads_through;
@@ -23,8 +22,10 @@ use manual::Machine;
 use manual::Reason;
 use memory::Address;
 use memory::get_byte;
+use opcode_rows::dispatch;
 use registers::Registers;
 use rows::Dispatched;
+use rows::STEP;
 use seals::Seen;
 use seals::first_sealed;
 use stack::serve;
@@ -124,7 +125,7 @@ fn patrol(
             Dispatched::Performed(performed) => {
                 let after = performed.registers;
                 registers = after.kept_apart();
-                cycles += performed.cycles as u64;
+                cycles += STEP - performed.ticks;
                 steps += 1;
             }
             Dispatched::NotAnOpcode => {

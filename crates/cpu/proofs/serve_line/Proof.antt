@@ -1,7 +1,6 @@
--- The room is tested first; then the line is served.
+-- The line is served.
 use mathlib.Core.Path.{refl, _∙_}
 use borrow.Author.Needs.{needs}
-use borrow.Author.Tests.{lt-ltb, le-ltb}
 use denote.Ref.{now}
 use Rattle.manual.specs.Interrupts.{served}
 use Rattle.manual.specs.Theorems.Programs.{then}
@@ -11,17 +10,12 @@ use Rattle.cpu.proofs.serve_line.Tie as tie
 
 returns : tie.Need-returns
 unfolding serving
-returns c = rw (lt-ltb _ _ (c .before .before .if1 .taken), c .new2 .ensures, c .before .new .ensures)
-
-returns-2 : tie.Need-returns-2
-unfolding serving
-returns-2 c =
+returns c =
     let c₄ = c .before .before .before .before in
-    let a = c₄ .before .before .before .before .args in
-    rw (le-ltb _ _ (c₄ .before .before .if1 .left))
-    (then (served (a .vector) (a .start)) _ (now (a .memory)) (c₄ .serve .ensures) refl ∙ rw (c .new4 .ensures, c .before .new3 .ensures))
+    let a = c₄ .before .before .before .args in
+    then (served (a .vector) (a .start)) _ (now (a .memory)) (c₄ .serve .ensures) refl ∙ rw (c .new2 .ensures, c .before .new .ensures)
 
 pub serve-line-spec : {M : Type 1} → statement M
 serve-line-spec =
     tie.close
-    (tie.spec (search needs) (search needs) returns (search needs) (search needs) (search needs) (search needs) (search needs) returns-2)
+    (tie.spec (search needs) (search needs) (search needs) (search needs) (search needs) returns)

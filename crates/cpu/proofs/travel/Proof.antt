@@ -16,7 +16,7 @@ use Rattle.manual.specs.Outcomes.{isMade, ended}
 use Rattle.manual.specs.Stepping.{fullMemory, runFull}
 use Rattle.manual.specs.Theorems.StepLaws.{run-end}
 use Rattle.manual.specs.Theorems.Lunch.{added}
-use Rattle.cpu.specs.Turning.{Calm, reach, turning, settled, reach-calm, turn-few, turn-stops, turn-goes, added-none, added-twice}
+use Rattle.cpu.specs.Turning.{Calm, reach, Fits, fitting, going, turning, settled, reach-calm, going-fits, going-most, turn-few, turn-stops, turn-goes, added-none, added-twice}
 use Rattle.cpu.proofs.travel.Statement.{statement}
 use Rattle.cpu.proofs.travel.Tie as tie
 
@@ -39,7 +39,7 @@ loop-holds c =
 
 module _ (c : tie.After-reach Inv-loop μ-loop) where
   abbrev looped : tie.At-loop Inv-loop μ-loop
-  looped = c .before .before
+  looped = c .before .before .before
 
   abbrev s : tie.Start Inv-loop μ-loop
   s = looped .before .before
@@ -49,12 +49,29 @@ module _ (c : tie.After-reach Inv-loop μ-loop) where
   n = s .args .bound - looped .loop .steps
 
   left : 0 < n
-  left = omega (arith, c .before .loop-test .taken)
+  left = omega (arith, c .before .before .loop-test .taken)
+
+  abbrev far : ℕ
+  far = going (s .args .lines) (looped .loop .machine .cycles) n
+
+  goes-far : c .reach .result ≡ far
+  goes-far = c .reach .ensures ∙ ap (reach (s .args .lines .irq)) (c .before .fitting .ensures)
+
+  some : 0 < far
+  some = going-fits (s .args .lines) (looped .loop .machine .cycles) n left .0
+
+  most : far ≤ n
+  most = going-most (s .args .lines) (looped .loop .machine .cycles) n left
 
 turn-requires : tie.Need-turn-requires Inv-loop μ-loop
 turn-requires c κs =
     let r = c .before in
-    (looped r .loop .inv .1, subst (λ (k : ℕ). Calm (s r .args .lines) k) (sym (r .reach .ensures)) (reach-calm (s r .args .lines) (looped r .loop .machine) (n r) (left r)))
+    let lines = s r .args .lines in
+    let cycles = looped r .loop .machine .cycles in (
+      looped r .loop .inv .1,
+      subst (λ (k : ℕ). Calm lines k) (sym (goes-far r)) (reach-calm lines (fitting (n r) cycles)),
+      subst (λ (k : ℕ). Fits cycles k) (sym (goes-far r)) (going-fits lines cycles (n r) (left r)),
+    )
 
 module _ (c : tie.After-turn Inv-loop μ-loop) where
   abbrev r : tie.After-reach Inv-loop μ-loop
@@ -72,16 +89,16 @@ module _ (c : tie.After-turn Inv-loop μ-loop) where
   abbrev after : List ℕ
   after = c .turn .last .1 .1 .1 .0
 
-  gives : Gives (turning (reach (lines .irq) (n r)) lines machine) memory (c .turn .result) after
-  gives = subst (λ (k : ℕ). Gives (turning k lines machine) memory (c .turn .result) after) (r .reach .ensures) (c .turn .ensures)
+  gives : Gives (turning (far r) lines machine) memory (c .turn .result) after
+  gives = subst (λ (k : ℕ). Gives (turning k lines machine) memory (c .turn .result) after) (goes-far r) (c .turn .ensures)
 
   few : c .turn .result .ended .steps ≤ n r
-  few = turn-few lines machine (n r) (left r) memory gives
+  few = turn-few lines machine (n r) (far r) (some r) (most r) memory gives
 
   -- the run from the start, where the turn was its end
   stops : isMade (c .turn .result .ended .reason) ≡ false
       → exec (runFull (s r .args .bound) 0 lines (s r .args .start)) (now (s r .args .memory)) ≡ added (looped r .loop .steps) (settled machine (c .turn .result .ended), after)
-  stops f = looped r .loop .inv .2 ∙ ap (added (looped r .loop .steps)) (turn-stops lines machine (n r) (left r) memory gives f)
+  stops f = looped r .loop .inv .2 ∙ ap (added (looped r .loop .steps)) (turn-stops lines machine (n r) (far r) (some r) (most r) memory gives f)
 
   -- and where it goes on
   goes : isMade (c .turn .result .ended .reason) ≡ true
@@ -90,7 +107,7 @@ module _ (c : tie.After-turn Inv-loop μ-loop) where
       ≡ added (looped r .loop .steps + c .turn .result .ended .steps)
       (exec (runFull (s r .args .bound - (looped r .loop .steps + c .turn .result .ended .steps)) 0 lines (settled machine (c .turn .result .ended) .machine)) after))
   goes h =
-      let g = turn-goes lines machine (n r) (left r) memory gives h in
+      let g = turn-goes lines machine (n r) (far r) (some r) (most r) memory gives h in
       let e : n r - c .turn .result .ended .steps ≡ s r .args .bound - (looped r .loop .steps + c .turn .result .ended .steps) = omega arith in (
         g .0,
         looped r .loop .inv .2
@@ -153,6 +170,7 @@ travel-spec =
     Inv-loop
     μ-loop
     loop-holds
+    (search needs)
     (search needs)
     (search needs)
     turn-requires

@@ -5,9 +5,10 @@ use mathlib.Core.List.{List}
 use borrow.Author.Needs.{needs}
 use denote.Ref.{now}
 use Rattle.manual.specs.declared.Lines.{Lines}
+use Rattle.manual.specs.declared.Machine.{Machine}
 use Rattle.manual.specs.Micro.{Gives}
 use Rattle.cpu.specs.declared.Travelled.{Travelled}
-use Rattle.cpu.specs.Turning.{Calm, turning, settled}
+use Rattle.cpu.specs.Turning.{Calm, Fits, turning, settled}
 use Rattle.numbers.specs.Machines.{machineFrom, linesFrom}
 use Rattle.mos6502.specs.Laws.{turn-gives}
 use Rattle.mos6502.proofs.advance.Statement.{statement}
@@ -15,8 +16,11 @@ use Rattle.mos6502.proofs.advance.Tie as tie
 
 turn-requires : tie.Need-turn-requires
 turn-requires c κs =
-    let s = c .before .before .before .before .before .before in
-    (s .pre .0, subst (λ (l : Lines). Calm l (s .args .bound)) (sym (c .before .lines-from .ensures)) (s .pre .1))
+    let s = c .before .before .before .before .before .before in (
+      s .pre .0,
+      subst (λ (l : Lines). Calm l (s .args .bound)) (sym (c .before .lines-from .ensures)) (s .pre .1),
+      subst (λ (q : Machine). Fits (q .cycles) (s .args .bound)) (sym (c .before .before .machine-from .ensures)) (s .pre .2),
+    )
 
 -- the turn on the machine of the numbers
 made : (c : tie.After-turn)

@@ -11,72 +11,51 @@ use Rattle.manual.specs.Micro.{exec, Gives}
 use Rattle.manual.specs.Stepping.{fullMemory}
 use Rattle.cpu.specs.Turning.{Calm, reach, turning, settled, reach-calm}
 use Rattle.numbers.specs.Machines.{machineFrom, linesFrom}
-use Rattle.mos6502.specs.Numbers.{TurnNumbers, turnOnNumbers}
+use Rattle.mos6502.specs.Numbers.{RunNumbers}
 use Rattle.mos6502.specs.Rounds.{Round, at-first, at-last, Turns, round-turns}
 use Rattle.mos6502.proofs.go_on.Statement.{statement}
 use Rattle.mos6502.proofs.go_on.Tie as tie
 
 abbrev Inv-loop : tie.InvT-loop
-Inv-loop registers₀ cycles₀ steps₀ bound lines memory₀ total₀ made₀ first₀ registers cycles steps memory total made first =
+Inv-loop registers₀ cycles₀ steps₀ bound lines memory₀ total₀ made₀ registers cycles steps memory total made =
     (total ≤ bound) × (length memory ≡ fullMemory) × Round bound lines registers₀ cycles₀ memory₀ total registers cycles memory
 
 abbrev μ-loop : tie.MeasureT-loop
-μ-loop registers₀ cycles₀ steps₀ bound lines memory₀ total₀ made₀ first₀ registers cycles steps memory total made first = bound - total
+μ-loop registers₀ cycles₀ steps₀ bound lines memory₀ total₀ made₀ registers cycles steps memory total made = bound - total
 
 loop-holds : tie.Need-loop-holds Inv-loop μ-loop
 loop-holds c = (omega arith, c .before .pre, at-first _ _ _ _ _)
 
-module _ (c : tie.After-reach Inv-loop μ-loop) where
+module _ (c : tie.In-loop Inv-loop μ-loop) where
   abbrev looped : tie.At-loop Inv-loop μ-loop
-  looped = c .before .before .before
+  looped = c .before
 
   abbrev s : tie.Start Inv-loop μ-loop
   s = looped .before .before
 
-  -- the steps that are left
-  abbrev n : ℕ
-  n = s .args .bound - looped .loop .total
-
-  abbrev present : Lines
-  present = linesFrom (s .args .lines)
-
-  -- how far this turn goes
-  far : c .reach .result ≡ reach (present .irq) n
-  far = c .reach .ensures ∙ ap (λ (l : Lines). reach (l .irq) n) (c .before .lines-from .ensures)
-
   less : looped .loop .total < s .args .bound
-  less = c .before .before .loop-test .taken
+  less = c .loop-test .taken
 
-advance-requires : tie.Need-advance-requires Inv-loop μ-loop
-advance-requires c κs =
-    let r = c .before .before .before .before .before in
-    let one : 0 < n r = omega (arith, less r) in
-    (looped r .loop .inv .1, subst (λ (k : ℕ). Calm (present r) k) (sym (far r)) (reach-calm (present r) (machineFrom (looped r .loop .registers) (looped r .loop .cycles)) (n r) one))
+one-turn-requires : tie.Need-one-turn-requires Inv-loop μ-loop
+one-turn-requires c κs = let r = c .before .before .before .before in (looped r .loop .inv .1, omega (arith, less r))
 
-module _ (c : tie.After-advance Inv-loop μ-loop) where
-  abbrev r : tie.After-reach Inv-loop μ-loop
-  r = c .before .before .before .before .before .before
+module _ (c : tie.After-one-turn Inv-loop μ-loop) where
+  abbrev r : tie.In-loop Inv-loop μ-loop
+  r = c .before .before .before .before .before
 
   abbrev after : List ℕ
-  after = c .advance .last .1 .1 .1 .1 .1 .1 .0
+  after = c .one-turn .last .1 .1 .1 .1 .1 .0
 
   -- what came back of the turn
-  abbrev numbers : TurnNumbers
-  numbers = record {
-    first = c .advance .last .1 .1 .1 .0;
-    ended = record { answer = c .advance .result; steps = c .advance .last .1 .1 .0; registers = c .advance .last .0; cycles = c .advance .last .1 .0 };
-  }
+  abbrev numbers : RunNumbers
+  numbers = record { answer = c .one-turn .result; steps = c .one-turn .last .1 .1 .0; registers = c .one-turn .last .0; cycles = c .one-turn .last .1 .0 }
 
   turn : Turns (s r .args .bound) (s r .args .lines) (now (s r .args .registers)) (now (s r .args .cycles)) (now (s r .args .memory)) (looped r .loop .total) (looped r .loop .registers) (looped r .loop .cycles) (looped r .loop .memory) (looped r .loop .inv .2) (less r)
       numbers after
-  turn =
-      round-turns _ _ _ _ _ _ _ _ _ (looped r .loop .inv .2) (less r)
-      (subst (λ (k : ℕ). Gives (turnOnNumbers k (s r .args .lines) (looped r .loop .registers) (looped r .loop .cycles)) (looped r .loop .memory) numbers after) (far r) (c .advance .ensures .0))
-      (c .advance .ensures .1
-      ∙ ap (λ (k : ℕ). settled (machineFrom (looped r .loop .registers) (looped r .loop .cycles)) (exec (turning k (present r) (machineFrom (looped r .loop .registers) (looped r .loop .cycles))) (looped r .loop .memory) .0 .ended) .machine) (far r))
+  turn = round-turns _ _ _ _ _ _ _ _ _ (looped r .loop .inv .2) (less r) (c .one-turn .ensures .0) (c .one-turn .ensures .1)
 
   kept : length after ≡ fullMemory
-  kept = omega (arith, c .advance .kept .1 .1 .1 .1 .1 .1 .0, looped r .loop .inv .1)
+  kept = omega (arith, c .one-turn .kept .1 .1 .1 .1 .1 .0, looped r .loop .inv .1)
 
 add-total : tie.Need-add-total Inv-loop μ-loop
 add-total c = let c₂ = c .before .before in omega (arith, turn c₂ .few, s (r c₂) .fits .bound .fits)
@@ -114,9 +93,7 @@ go-on-spec =
     μ-loop
     loop-holds
     (search needs)
-    (search needs)
-    (search needs)
-    advance-requires
+    one-turn-requires
     add-total
     same-length
     returns

@@ -17,6 +17,7 @@ use Rattle.manual.specs.Outcomes.{machineOf}
 use Rattle.manual.specs.Stepping.{fullMemory, stepFull}
 use Rattle.manual.specs.ReadList.{listedStepFull}
 use Rattle.rows.specs.declared.Dispatched.{Dispatched}
+use Rattle.rows.specs.Performing.{ticksOf}
 use Rattle.cpu.specs.Steps.{stepBy, StepsBy, step-by}
 use Rattle.cpu.specs.Turning.{raised}
 use Rattle.witness.specs.declared.seals.Seen.the-variants.{Nothing}
@@ -117,6 +118,11 @@ module _ (c : tie.After-dispatch Inv-loop μ-loop) where
   abbrev far : ℕ
   far = s looped .args .bound - (looped .loop .steps + 1)
 
+sub-cycles : tie.Need-sub-cycles Inv-loop μ-loop
+sub-cycles c =
+    let d = c .before .before .before .before .before .before .before .before in
+    rw (c .before .before .before .before .performed .given .1) at (next d .within)
+
 add-cycles : tie.Need-add-cycles Inv-loop μ-loop
 add-cycles c =
     let d = c .before .before .before .before .before .before .before .before in
@@ -151,8 +157,8 @@ loop-again c =
       kept d,
       here l (room d .0)
           ∙ guarded-goes-on (seal l) (far d) (l .loop .steps) (raised (a .nmi)) (at l) (l .loop .memory) _ _ (unseen (d .before .before .before .before)) (by-variant d (c₄ .performed .given .1)) refl
-          ∙ ap (λ (r : Registers). guardedFull (seal l) (far d) (l .loop .steps + 1) (raised (a .nmi)) (machineOf r (l .loop .cycles + made .cycles) (a .nmi)) after) (sym (c .before .kept-apart2 .ensures))
-          ∙ ap (λ (t : Bool). guardedFull (seal l) (far d) (l .loop .steps + 1) (raised (a .nmi)) (machineOf (c .before .kept-apart2 .result) (l .loop .cycles + made .cycles) (cond t (a .nmi) (a .start .nmi))) after) (sym (lt-ltb (a .made) (l .loop .steps + 1) (omega (arith, l .loop .inv .0)))),
+          ∙ ap (λ (r : Registers). guardedFull (seal l) (far d) (l .loop .steps + 1) (raised (a .nmi)) (machineOf r (l .loop .cycles + ticksOf (made .ticks)) (a .nmi)) after) (sym (c .before .kept-apart2 .ensures))
+          ∙ ap (λ (t : Bool). guardedFull (seal l) (far d) (l .loop .steps + 1) (raised (a .nmi)) (machineOf (c .before .kept-apart2 .result) (l .loop .cycles + ticksOf (made .ticks)) (cond t (a .nmi) (a .start .nmi))) after) (sym (lt-ltb (a .made) (l .loop .steps + 1) (omega (arith, l .loop .inv .0)))),
     )
 
 same-length-3 : tie.Need-same-length-3 Inv-loop μ-loop
@@ -207,7 +213,7 @@ patrol-spec =
     (search needs)
     (search needs)
     (search needs)
-    (search needs)
+    sub-cycles
     add-cycles
     add-steps
     loop-less

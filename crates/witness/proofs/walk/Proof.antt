@@ -68,7 +68,7 @@ turn-requires : tie.Need-turn-requires Inv-loop μ-loop
 turn-requires c κs =
     let r = c .before in (
       looped r .loop .inv .1,
-      subst (λ (i : ℕ). Calm (s r .args .lines) i) (sym (span r)) (reach-calm (s r .args .lines) (looped r .loop .machine) (n r) (omega (arith, before r))),
+      subst (λ (i : ℕ). Calm (s r .args .lines) i) (sym (span r)) (reach-calm (s r .args .lines) (n r)),
       omega (arith, few r .0),
     )
 

@@ -1,4 +1,4 @@
--- Both outputs, and the one that D picks.
+-- The one that D picks.
 use borrow.Author.Needs.{needs}
 use Rattle.manual.specs.Instructions.{difference}
 use Rattle.alu.proofs.read.difference.Statement.{statement}
@@ -6,7 +6,11 @@ use Rattle.alu.proofs.read.difference.Tie as tie
 
 returns : tie.Need-returns
 unfolding difference
-returns c = rw (c .pick .ensures, c .before .sbc-binary .ensures, c .before .before .sbc-decimal .ensures)
+returns c = rw (c .before .if1 .taken, c .sbc-decimal .ensures)
+
+returns-2 : tie.Need-returns-2
+unfolding difference
+returns-2 c = rw (c .before .if1 .left, c .sbc-binary .ensures)
 
 pub difference-spec : {M : Type 1} → statement M
-difference-spec = tie.close (tie.spec (search needs) (search needs) (search needs) returns)
+difference-spec = tie.close (tie.spec (search needs) (search needs) returns returns-2)

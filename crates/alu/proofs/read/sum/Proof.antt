@@ -1,4 +1,4 @@
--- Both outputs, and the one that D picks.
+-- The one that D picks.
 use borrow.Author.Needs.{needs}
 use Rattle.manual.specs.Instructions.{sum}
 use Rattle.alu.proofs.read.sum.Statement.{statement}
@@ -6,7 +6,11 @@ use Rattle.alu.proofs.read.sum.Tie as tie
 
 returns : tie.Need-returns
 unfolding sum
-returns c = rw (c .pick .ensures, c .before .adc-binary .ensures, c .before .before .adc-decimal .ensures)
+returns c = rw (c .before .if1 .taken, c .adc-decimal .ensures)
+
+returns-2 : tie.Need-returns-2
+unfolding sum
+returns-2 c = rw (c .before .if1 .left, c .adc-binary .ensures)
 
 pub sum-spec : {M : Type 1} → statement M
-sum-spec = tie.close (tie.spec (search needs) (search needs) (search needs) returns)
+sum-spec = tie.close (tie.spec (search needs) (search needs) returns returns-2)
