@@ -29,7 +29,7 @@ use Rattle.manual.specs.Theorems.StepLaws.{due-none, step-late, step-undefined,
 use Rattle.footprint.specs.Places.{footprintOf, addresses}
 use Rattle.footprint.specs.Laws.{late-list, due-list}
 use Rattle.footprint.specs.Theorems.{full-kept}
-use Rattle.cpu.specs.Turning.{raised, stretch, Calm, reach, reach-some, some}
+use Rattle.cpu.specs.Turning.{raised, stretch, Calm, going, going-fits, going-most, some}
 use Rattle.witness.specs.declared.Watched.{Watched}
 use Rattle.witness.specs.declared.Halt.{Halt}
 use Rattle.witness.specs.declared.seals.Seen.{Seen}
@@ -129,10 +129,6 @@ module _ (seal : ℕ → Bool) (n k : ℕ) (lines : Lines) (s : Machine) (m : Li
 pub guarded-end : (seal : ℕ → Bool) (k : ℕ) (lines : Lines) (s : Machine) (m : List ℕ) → guardedFull seal 0 k lines s m ≡ (ran Made k s, m)
 unfolding guardedFull
 guarded-end seal k lines s m = refl
-
--- before the bound there is one more step
-pub one-more : (bound k : ℕ) → k < bound → bound - k ≡ suc (bound - (k + 1))
-one-more bound k l = omega arith
 
 -- what the byte at the counter reads is kept whole by a footprint
 pub quiet-kept : (r : Registers) (m : List ℕ) → addresses (footprintOf (listedDue Quiet r m)) ≡ listedDue Quiet r m
@@ -246,12 +242,12 @@ module _ (seal : ℕ → Bool) (lines : Lines) where
 module _ (seal : ℕ → Bool) (bound k : ℕ) (lines : Lines) (s : Machine) (m : List ℕ) (l : k < bound) where
   -- the steps of a turn, of those that are left
   abbrev pub turnOf : ℕ
-  turnOf = stretch (due lines s) (reach (lines .irq) (bound - k))
+  turnOf = stretch (due lines s) (going lines (s .cycles) (bound - k))
 
   some-left : (0 < turnOf) × (turnOf ≤ bound - k)
   some-left =
-      let far = reach-some (lines .irq) (bound - k) (omega arith) in
-      some lines s (bound - k) (reach (lines .irq) (bound - k)) (far .0) (far .1) (due lines s)
+      let one : 0 < bound - k = omega arith in
+      some lines s (bound - k) (going lines (s .cycles) (bound - k)) (going-fits lines (s .cycles) (bound - k) one .0) (going-most lines (s .cycles) (bound - k) one) (due lines s)
 
   module _ (w : Watched × List ℕ) (g : w ≡ guardedFull seal turnOf k lines s m) where
     turn-onward : guardedFull seal (bound - k) k lines s m ≡ onward seal lines (bound - k - turnOf) w

@@ -7,8 +7,9 @@ ghost use Rattle.manual.specs.Outcomes.{machineOf};
 ghost use Rattle.manual.specs.Interrupts.{due};
 ghost use Rattle.manual.specs.Stepping.{fullMemory};
 ghost use Rattle.manual.specs.ReadList.{listedDue};
-ghost use Rattle.cpu.specs.Turning.{raised, Calm, stretch};
+ghost use Rattle.cpu.specs.Turning.{raised, Calm, Fits, stretch};
 ghost use Rattle.witness.specs.Guarded.{inPages, inStretch, inEither, firstSealed, ran, halted, guardedFull, guarded, longGuarded};
+use cpu::fitting;
 use cpu::reach;
 use footprint::reads_quiet;
 use footprint::reads_through;
@@ -29,6 +30,8 @@ use rows::STEP;
 use seals::Seen;
 use seals::first_sealed;
 use stack::serve;
+use std::num::wrapping_add_u64;
+use std::num::wrapping_sub_u64;
 
 pub mod seals; // seals.rt: what is sealed
 
@@ -89,8 +92,8 @@ fn kept(begun: bool, start: Machine, nmi: bool, registers: Registers, cycles: u6
 }
 
 // The steps from `made` to `bound` on a full memory, with IRQ high and NMI not falling. The compiler puts the footprint and all
-// that a step does into this loop, as it does in cpu's: so no line is looked at in it, and `dispatch` has no other caller in
-// what is linked.
+// that a step does into this loop, as it does in cpu's: so no line and no room is looked at in it, one number counts the steps
+// down and the cycles up, and `dispatch` has no other caller in what is linked.
 fn patrol(
     start: Machine,
     nmi: bool,
@@ -101,22 +104,22 @@ fn patrol(
     last: u16,
     memory: &mut [u8],
 ) -> Watched
-    requires { ⌜ (length (now memory) ≡ fullMemory) × ((start .nmi && not nmi) ≡ false) ⌝ }
+    requires { ⌜ (length (now memory) ≡ fullMemory) × ((start .nmi && not nmi) ≡ false) × Fits (start .cycles) (bound - made) ⌝ }
     ensures { λ r.
         ⌜ (r, now (memory .exit))
         ≡ guardedFull (inEither (now (pages .entry)) first last) (bound - made) made (raised nmi) start (now (memory .entry)) ⌝ }
 {
+    if HIGHEST_COUNT < start.cycles {
+        return Watched::ran(Reason::NoCycleRoom, made, start);
+    }
     let given = start.registers;
     let mut registers = given.kept_apart();
-    let mut cycles = start.cycles;
-    let mut steps = made;
-    while steps < bound {
-        if HIGHEST_COUNT < cycles {
-            let left = kept(made < steps, start, nmi, registers, cycles);
-            return Watched::ran(Reason::NoCycleRoom, steps, left);
-        }
+    let mut clock: u64 = (bound - made - 1) * STEP;
+    loop {
         let seen = ahead(pages, first, last, registers, memory);
         if let Seen::At(place) = seen {
+            let steps = bound - 1 - clock / STEP;
+            let cycles = start.cycles + clock % STEP;
             let left = kept(made < steps, start, nmi, registers, cycles);
             return Watched::halted(place, steps, left);
         }
@@ -125,17 +128,22 @@ fn patrol(
             Dispatched::Performed(performed) => {
                 let after = performed.registers;
                 registers = after.kept_apart();
-                cycles += STEP - performed.ticks;
-                steps += 1;
+                let next = wrapping_sub_u64(clock, performed.ticks);
+                if clock < performed.ticks {
+                    let cycles = start.cycles + wrapping_add_u64(next, STEP);
+                    let left = Machine::new(registers, cycles, nmi);
+                    return Watched::ran(Reason::Made, bound, left);
+                }
+                clock = next;
             }
             Dispatched::NotAnOpcode => {
+                let steps = bound - 1 - clock / STEP;
+                let cycles = start.cycles + clock % STEP;
                 let left = kept(made < steps, start, nmi, registers, cycles);
                 return Watched::ran(Reason::NotAnOpcode, steps, left);
             }
         }
     }
-    let left = kept(made < steps, start, nmi, registers, cycles);
-    Watched::ran(Reason::Made, steps, left)
 }
 
 // A line is served, which is the step after `steps`, unless a byte of its vector is sealed.
@@ -177,7 +185,7 @@ fn turn(
     last: u16,
     memory: &mut [u8],
 ) -> Watched
-    requires { ⌜ (length (now memory) ≡ fullMemory) × Calm lines (bound - steps) × (steps < bound) ⌝ }
+    requires { ⌜ (length (now memory) ≡ fullMemory) × Calm lines (bound - steps) × (steps < bound) × Fits (start .cycles) (bound - steps) ⌝ }
     ensures { λ r.
         ⌜ (r, now (memory .exit))
         ≡ guardedFull (inEither (now (pages .entry)) first last) (stretch (due lines start) (bound - steps)) steps lines start (now (memory .entry)) ⌝ }
@@ -208,7 +216,7 @@ fn walk(
     let mut machine = start;
     let mut steps: u64 = 0;
     while steps < bound {
-        let far = steps + reach(lines.irq, bound - steps);
+        let far = steps + reach(lines.irq, fitting(bound - steps, machine.cycles));
         let turned = turn(machine, steps, far, lines, pages, first, last, memory);
         match turned {
             Watched::Ran(ended) => {

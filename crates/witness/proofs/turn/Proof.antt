@@ -21,7 +21,7 @@ patrol-requires : tie.Need-patrol-requires
 patrol-requires c κs =
     let c₃ = c .before .before .before in
     let s = c₃ .before .before in
-    (s .pre .0, quiet-held (s .args .lines) (s .args .start) (sym (c₃ .due .ensures) ∙ c .before .enum-told .given .1))
+    (s .pre .0, quiet-held (s .args .lines) (s .args .start) (sym (c₃ .due .ensures) ∙ c .before .enum-told .given .1), s .pre .3)
 
 returns : tie.Need-returns
 returns c =

@@ -12,7 +12,7 @@ use Rattle.manual.specs.declared.Lines.{Lines}
 use Rattle.manual.specs.declared.Machine.{Machine}
 use Rattle.manual.specs.Interrupts.{due}
 use Rattle.manual.specs.Stepping.{fullMemory}
-use Rattle.cpu.specs.Turning.{stretch, Calm, reach, reach-calm}
+use Rattle.cpu.specs.Turning.{stretch, Calm, Fits, reach, fitting, going, reach-calm, going-fits, going-most}
 use Rattle.witness.specs.declared.Watched.{Watched}
 use Rattle.witness.specs.Guarded.{inEither, guardedFull}
 use Rattle.witness.specs.Laws.{guarded-end, turn-halts, turn-stops, turn-goes}
@@ -36,7 +36,7 @@ loop-holds c =
 
 module _ (c : tie.After-reach Inv-loop μ-loop) where
   abbrev looped : tie.At-loop Inv-loop μ-loop
-  looped = c .before .before
+  looped = c .before .before .before
 
   abbrev s : tie.Start Inv-loop μ-loop
   s = looped .before .before
@@ -49,17 +49,19 @@ module _ (c : tie.After-reach Inv-loop μ-loop) where
   n = s .args .bound - k
 
   before : k < s .args .bound
-  before = c .before .loop-test .taken
+  before = c .before .before .loop-test .taken
+
+  fits : Fits (looped .loop .machine .cycles) (going (s .args .lines) (looped .loop .machine .cycles) n)
+  fits = going-fits (s .args .lines) (looped .loop .machine .cycles) n (omega (arith, before))
+
+  goes-far : c .reach .result ≡ going (s .args .lines) (looped .loop .machine .cycles) n
+  goes-far = c .reach .ensures ∙ ap (reach (s .args .lines .irq)) (c .before .fitting .ensures)
 
   few : (0 < c .reach .result) × (c .reach .result ≤ n)
-  few = by-level (s .args .lines .irq) (c .reach .ensures)
-    where
-      by-level : (irq : Bool) → c .reach .result ≡ reach irq n → (0 < c .reach .result) × (c .reach .result ≤ n)
-      by-level true e = (omega (arith, before, e), omega (arith, e))
-      by-level false e = (omega (arith, e), omega (arith, before, e))
+  few = (omega (arith, fits .0, goes-far), omega (arith, going-most (s .args .lines) (looped .loop .machine .cycles) n (omega (arith, before)), goes-far))
 
-  span : k + c .reach .result - k ≡ reach (s .args .lines .irq) n
-  span = let e : k + c .reach .result - k ≡ c .reach .result = omega arith in e ∙ c .reach .ensures
+  span : k + c .reach .result - k ≡ going (s .args .lines) (looped .loop .machine .cycles) n
+  span = let e : k + c .reach .result - k ≡ c .reach .result = omega arith in e ∙ goes-far
 
 add-far : tie.Need-add-far Inv-loop μ-loop
 add-far c = omega (arith, few c .1, before c, s c .fits .bound .fits)
@@ -68,8 +70,9 @@ turn-requires : tie.Need-turn-requires Inv-loop μ-loop
 turn-requires c κs =
     let r = c .before in (
       looped r .loop .inv .1,
-      subst (λ (i : ℕ). Calm (s r .args .lines) i) (sym (span r)) (reach-calm (s r .args .lines) (n r)),
+      subst (λ (i : ℕ). Calm (s r .args .lines) i) (sym (span r)) (reach-calm (s r .args .lines) (fitting (n r) (looped r .loop .machine .cycles))),
       omega (arith, few r .0),
+      subst (λ (i : ℕ). Fits (looped r .loop .machine .cycles) i) (sym (span r)) (fits r),
     )
 
 module _ (c : tie.After-turn Inv-loop μ-loop) where
@@ -89,7 +92,7 @@ module _ (c : tie.After-turn Inv-loop μ-loop) where
   after = c .turn .last .1 .1 .1 .1 .1 .1 .1 .0
 
   gives : {w : Watched} → c .turn .result ≡ w
-      → (w, after) ≡ guardedFull seal (stretch (due lines machine) (reach (lines .irq) (n r))) (k r) lines machine (looped r .loop .memory)
+      → (w, after) ≡ guardedFull seal (stretch (due lines machine) (going lines (machine .cycles) (n r))) (k r) lines machine (looped r .loop .memory)
   gives e =
       ap (λ (w : Watched). (w, after)) (sym e)
       ∙ c .turn .ensures
@@ -166,6 +169,7 @@ walk-spec =
     Inv-loop
     μ-loop
     loop-holds
+    (search needs)
     (search needs)
     (search needs)
     add-far
