@@ -10,7 +10,6 @@ use borrow.Author.Tests.{eq-eqb, ne-eqb, le-leb, lt-leb}
 use lib.Dec.{lit≤}
 use lib.ListN.{length, length-append, getD, set}
 use lib.Seq.{ext-getD, getD-set-same, getD-set-other}
-use Rattle.manual.specs.declared.Lines.{Lines}
 use Rattle.manual.specs.declared.Machine.{Machine}
 use Rattle.manual.specs.declared.Reason.the-variants.{MemoryNotFull}
 use Rattle.manual.specs.Interrupts.{idle}
@@ -21,7 +20,8 @@ use Rattle.states.specs.Fields.{machineFields}
 use Rattle.reporting.specs.Report.{imageStart}
 use Rattle.witness.specs.declared.Halt.{Halt}
 use Rattle.witness.specs.declared.Watched.{Watched}
-use Rattle.witness.specs.Guarded.{inStretch, ran, longGuarded}
+use Rattle.witness.specs.Guarded.{inStretch, ran, guardedFull, longGuarded}
+use Rattle.witness.specs.Laws.{long-whole}
 use Rattle.witness.specs.Theorems.{never}
 use Rattle.sealing.specs.Extract.{blankedFrom, blanked, extract}
 use Rattle.sealing.specs.Words.{haltLine, unread, would}
@@ -106,14 +106,11 @@ module _ (first last steps : ℕ) (m : List ℕ) where
   extract-whole e = simp (eq-eqb _ _ e)
 
   -- blanked, started and watched
-  pub extract-by : {b : List ℕ} {s : Machine} {lines : Lines} {w : Watched × List ℕ} → length m ≡ fullMemory → b ≡ blanked (inStretch first last) m
-      → s ≡ imageStart b
-      → lines ≡ idle
-      → w ≡ longGuarded (inStretch first last) (length b) steps lines s b
+  pub extract-by : {b : List ℕ} {s : Machine} {w : Watched × List ℕ} → length m ≡ fullMemory → b ≡ blanked (inStretch first last) m → s ≡ imageStart b
+      → w ≡ guardedFull (inStretch first last) steps 0 idle s b
       → w ≡ extract first last steps m
-  extract-by {b} {s} {lines} {w} full e h l g =
-      let size : length b ≡ fullMemory = ap length e ∙ blanked-length (inStretch first last) m ∙ full in
-      g ∙ rw (size, l, h, e) (sym (extract-whole full))
+  extract-by {b} {s} {w} full e h g =
+      g ∙ sym (long-whole (inStretch first last) fullMemory steps idle s b refl) ∙ rw (h, e) (sym (extract-whole full))
 
 -- ---- the line
 

@@ -8,9 +8,10 @@ ghost use Rattle.text.specs.Numerals.{decimal};
 ghost use Rattle.text.specs.Written.{Wrote};
 ghost use Rattle.sealing.specs.Extract.{blanked, extract};
 ghost use Rattle.sealing.specs.Words.{sealedStatus, haltLine, sealedLine, unread, would, oathText};
+use console::wipe_progress;
 use manual::FULL_MEMORY;
-use manual::Lines;
 use manual::Reason;
+use parts::watch_on;
 use reporting::start_image;
 use sentences::put_line;
 use states::put_machine;
@@ -24,7 +25,8 @@ use text::put_text;
 use witness::HALTED;
 use witness::Halt;
 use witness::Watched;
-use witness::watched_long;
+
+mod parts; // parts.rt: the run, in parts
 
 // Puts zeros into the bytes from a first to a last address.
 fn blank(first: u16, last: u16, memory: &mut [u8])
@@ -49,7 +51,9 @@ pub fn run_sealed(steps: u64, first: u16, last: u16, image: &mut [u8]) -> Watche
     }
     blank(first, last, image);
     let machine = start_image(image);
-    watched_long(machine, steps, Lines::idle(), first, last, image)
+    let watched = watch_on(machine, steps, first, last, image);
+    wipe_progress();
+    watched
 }
 
 // The status: that of a run, or 13 where it was halted.

@@ -237,49 +237,47 @@ module _ (seal : ℕ → Bool) (lines : Lines) where
       then-counted j k (k + suc j) s m (w .0) (w .1) (firstSealed seal (listedStepFull lines s m)) (isMade (w .0 .reason)) refl
       (subst (λ (i : ℕ). Counted i (guardedFull seal j (k + 1) lines (w .0 .machine) (w .1))) one (guarded-counted j (k + 1) (w .0 .machine) (w .1)))
 
--- ---- a run by turns
+-- ---- a run in parts
 
-module _ (seal : ℕ → Bool) (bound k : ℕ) (lines : Lines) (s : Machine) (m : List ℕ) (l : k < bound) where
-  -- the steps of a turn, of those that are left
-  abbrev pub turnOf : ℕ
-  turnOf = stretch (due lines s) (going lines (s .cycles) (bound - k))
+-- j steps of those that are left
+module _ (seal : ℕ → Bool) (bound k j : ℕ) (lines : Lines) (s : Machine) (m : List ℕ) (few : (0 < j) × (j ≤ bound - k)) where
+  module _ (w : Watched × List ℕ) (g : w ≡ guardedFull seal j k lines s m) where
+    part-onward : guardedFull seal (bound - k) k lines s m ≡ onward seal lines (bound - k - j) w
+    part-onward =
+        let e : bound - k ≡ j + (bound - k - j) = omega (arith, few .1) in
+        ap (λ (i : ℕ). guardedFull seal i k lines s m) e ∙ guarded-onward seal lines j (bound - k - j) k s m ∙ ap (onward seal lines (bound - k - j)) (sym g)
 
-  some-left : (0 < turnOf) × (turnOf ≤ bound - k)
-  some-left =
-      let one : 0 < bound - k = omega arith in
-      some lines s (bound - k) (going lines (s .cycles) (bound - k)) (going-fits lines (s .cycles) (bound - k) one .0) (going-most lines (s .cycles) (bound - k) one) (due lines s)
-
-  module _ (w : Watched × List ℕ) (g : w ≡ guardedFull seal turnOf k lines s m) where
-    turn-onward : guardedFull seal (bound - k) k lines s m ≡ onward seal lines (bound - k - turnOf) w
-    turn-onward =
-        let e : bound - k ≡ turnOf + (bound - k - turnOf) = omega (arith, some-left .1) in
-        ap (λ (i : ℕ). guardedFull seal i k lines s m) e
-        ∙ guarded-onward seal lines turnOf (bound - k - turnOf) k s m
-        ∙ ap (onward seal lines (bound - k - turnOf)) (sym g)
-
-  -- where it was halted or stopped, so is the run
-  pub turn-halts : (h : Halt) (e : List ℕ) → (Watched.Halted h, e) ≡ guardedFull seal turnOf k lines s m
+  -- where they were halted or stopped, so is the run
+  pub part-halts : (h : Halt) (e : List ℕ) → (Watched.Halted h, e) ≡ guardedFull seal j k lines s m
       → guardedFull seal (bound - k) k lines s m ≡ (Watched.Halted h, e)
-  turn-halts h e g = turn-onward (Watched.Halted h, e) g
+  part-halts h e g = part-onward (Watched.Halted h, e) g
 
-  module _ (q : Ended) (e : List ℕ) (g : (Watched.Ran q, e) ≡ guardedFull seal turnOf k lines s m) where
-    pub turn-stops : isMade (q .reason) ≡ false → guardedFull seal (bound - k) k lines s m ≡ (Watched.Ran q, e)
-    turn-stops f = turn-onward (Watched.Ran q, e) g ∙ rw f
+  module _ (q : Ended) (e : List ℕ) (g : (Watched.Ran q, e) ≡ guardedFull seal j k lines s m) where
+    pub part-stops : isMade (q .reason) ≡ false → guardedFull seal (bound - k) k lines s m ≡ (Watched.Ran q, e)
+    part-stops f = part-onward (Watched.Ran q, e) g ∙ rw f
 
-    counted : isMade (q .reason) ≡ true → q .steps ≡ k + turnOf
-    counted = subst (Counted seal lines (k + turnOf)) (sym g) (guarded-counted seal lines turnOf k s m)
+    -- where they were not, all are made, and the run goes on from the machine that they left
+    pub part-made : isMade (q .reason) ≡ true → q .steps ≡ k + j
+    part-made = subst (Counted seal lines (k + j)) (sym g) (guarded-counted seal lines j k s m)
 
-    -- where it was not, it has made a step, and the run goes on from the machine that it left
-    pub turn-goes : isMade (q .reason) ≡ true
+    pub part-goes : isMade (q .reason) ≡ true
         → (k < q .steps) × (q .steps ≤ bound)
         × (guardedFull seal (bound - k) k lines s m ≡ guardedFull seal (bound - q .steps) (q .steps) lines (q .machine) e)
-    turn-goes f =
-        let made = counted f in
-        let rest : bound - k - turnOf ≡ bound - q .steps = omega (arith, made, some-left .1) in (
-          omega (arith, made, some-left .0),
-          omega (arith, made, some-left .1),
-          turn-onward (Watched.Ran q, e) g ∙ rw f (ap (λ (i : ℕ). guardedFull seal i (q .steps) lines (q .machine) e) rest),
+    part-goes f =
+        let made = part-made f in
+        let rest : bound - k - j ≡ bound - q .steps = omega (arith, made, few .1) in (
+          omega (arith, made, few .0),
+          omega (arith, made, few .1),
+          part-onward (Watched.Ran q, e) g ∙ rw f (ap (λ (i : ℕ). guardedFull seal i (q .steps) lines (q .machine) e) rest),
         )
+
+-- A turn makes some of the steps that are left.
+pub turn-some : (bound k : ℕ) (lines : Lines) (s : Machine) → k < bound
+    → let j = stretch (due lines s) (going lines (s .cycles) (bound - k)) in
+    (0 < j) × (j ≤ bound - k)
+turn-some bound k lines s l =
+    let one : 0 < bound - k = omega arith in
+    some lines s (bound - k) (going lines (s .cycles) (bound - k)) (going-fits lines (s .cycles) (bound - k) one .0) (going-most lines (s .cycles) (bound - k) one) (due lines s)
 
 -- ---- the tests before the first step
 

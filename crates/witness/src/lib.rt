@@ -198,9 +198,10 @@ fn turn(
     }
 }
 
-// At most `bound` steps on a full memory, turn by turn.
+// The steps from `made` to `bound` on a full memory, turn by turn.
 fn walk(
     start: Machine,
+    made: u64,
     bound: u64,
     lines: Lines,
     pages: &[u8; 256],
@@ -211,10 +212,10 @@ fn walk(
     requires { ⌜ length (now memory) ≡ fullMemory ⌝ }
     ensures { λ r.
         ⌜ (r, now (memory .exit))
-        ≡ guardedFull (inEither (now (pages .entry)) first last) bound 0 lines start (now (memory .entry)) ⌝ }
+        ≡ guardedFull (inEither (now (pages .entry)) first last) (bound - made) made lines start (now (memory .entry)) ⌝ }
 {
     let mut machine = start;
-    let mut steps: u64 = 0;
+    let mut steps: u64 = made;
     while steps < bound {
         let far = steps + reach(lines.irq, fitting(bound - steps, machine.cycles));
         let turned = turn(machine, steps, far, lines, pages, first, last, memory);
@@ -253,7 +254,7 @@ pub fn watched_run(
     if HIGHEST_BOUND < bound {
         return Watched::ran(Reason::BoundTooHigh, 0, machine);
     }
-    walk(machine, bound, lines, pages, 1, 0, memory)
+    walk(machine, 0, bound, lines, pages, 1, 0, memory)
 }
 
 // The same where the addresses from a first to a last one are sealed; none where the last is below the first.
@@ -294,6 +295,24 @@ pub fn watched_long(
     if memory.len() != FULL_MEMORY {
         return Watched::ran(Reason::MemoryNotFull, 0, machine);
     }
+    watched_part(machine, 0, steps, lines, first, last, memory)
+}
+
+// The steps from `made` to `bound` of such a run, for whoever makes it in parts. `made` are counted already.
+pub fn watched_part(
+    machine: Machine,
+    made: u64,
+    bound: u64,
+    lines: Lines,
+    first: u16,
+    last: u16,
+    memory: &mut [u8],
+) -> Watched
+    requires { ⌜ length (now memory) ≡ fullMemory ⌝ }
+    ensures { λ r.
+        ⌜ (r, now (memory .exit))
+        ≡ guardedFull (inStretch first last) (bound - made) made lines machine (now (memory .entry)) ⌝ }
+{
     let none = [0u8; 256];
-    walk(machine, steps, lines, &none, first, last, memory)
+    walk(machine, made, bound, lines, &none, first, last, memory)
 }

@@ -1,6 +1,6 @@
 -- The loop's invariant: what the whole watched run gives is what the steps that are left give from here.
 use Prim.Native.Nat.{ℕ, _+_, _-_, _≤_, _<_}
-use mathlib.Core.Path.{_≡_, ap, sym, _∙_, subst}
+use mathlib.Core.Path.{_≡_, refl, ap, sym, _∙_, subst}
 use mathlib.Core.Bool.{Bool, true, false}
 use mathlib.Core.List.{List}
 use native.Mathlib.Omega.{arith}
@@ -15,24 +15,20 @@ use Rattle.manual.specs.Stepping.{fullMemory}
 use Rattle.cpu.specs.Turning.{stretch, Calm, Fits, reach, fitting, going, reach-calm, going-fits, going-most}
 use Rattle.witness.specs.declared.Watched.{Watched}
 use Rattle.witness.specs.Guarded.{inEither, guardedFull}
-use Rattle.witness.specs.Laws.{guarded-end, turn-halts, turn-stops, turn-goes}
+use Rattle.witness.specs.Laws.{guarded-end, part-halts, part-stops, part-goes, turn-some}
 use Rattle.witness.proofs.walk.Statement.{statement}
 use Rattle.witness.proofs.walk.Tie as tie
 
 abbrev Inv-loop : tie.InvT-loop
-Inv-loop bound lines pages first last memory₀ machine₀ steps₀ memory machine steps =
-    (steps ≤ bound)
-    × (length memory ≡ fullMemory)
-    × (guardedFull (inEither pages first last) bound 0 lines machine₀ memory₀ ≡ guardedFull (inEither pages first last) (bound - steps) steps lines machine memory)
+Inv-loop made bound lines pages first last memory₀ machine₀ steps₀ memory machine steps =
+    (length memory ≡ fullMemory)
+    × (guardedFull (inEither pages first last) (bound - made) made lines machine₀ memory₀ ≡ guardedFull (inEither pages first last) (bound - steps) steps lines machine memory)
 
 abbrev μ-loop : tie.MeasureT-loop
-μ-loop bound lines pages first last memory₀ machine₀ steps₀ memory machine steps = bound - steps
+μ-loop made bound lines pages first last memory₀ machine₀ steps₀ memory machine steps = bound - steps
 
 loop-holds : tie.Need-loop-holds Inv-loop μ-loop
-loop-holds c =
-    let s = c .before in
-    let all : s .args .bound - 0 ≡ s .args .bound = omega arith in
-    (omega arith, s .pre, rw all)
+loop-holds c = (c .before .pre, refl)
 
 module _ (c : tie.After-reach Inv-loop μ-loop) where
   abbrev looped : tie.At-loop Inv-loop μ-loop
@@ -69,7 +65,7 @@ add-far c = omega (arith, few c .1, before c, s c .fits .bound .fits)
 turn-requires : tie.Need-turn-requires Inv-loop μ-loop
 turn-requires c κs =
     let r = c .before in (
-      looped r .loop .inv .1,
+      looped r .loop .inv .0,
       subst (λ (i : ℕ). Calm (s r .args .lines) i) (sym (span r)) (reach-calm (s r .args .lines) (fitting (n r) (looped r .loop .machine .cycles))),
       omega (arith, few r .0),
       subst (λ (i : ℕ). Fits (looped r .loop .machine .cycles) i) (sym (span r)) (fits r),
@@ -99,7 +95,7 @@ module _ (c : tie.After-turn Inv-loop μ-loop) where
       ∙ ap (λ (i : ℕ). guardedFull seal (stretch (due lines machine) i) (k r) lines machine (looped r .loop .memory)) (span r)
 
   kept : length after ≡ fullMemory
-  kept = omega (arith, c .turn .kept .1 .1 .1 .1 .1 .1 .1 .0, looped r .loop .inv .1)
+  kept = omega (arith, c .turn .kept .1 .1 .1 .1 .1 .1 .1 .0, looped r .loop .inv .0)
 
 same-length : tie.Need-same-length Inv-loop μ-loop
 same-length c =
@@ -111,8 +107,8 @@ returns c =
     let c₃ = c .before .before .before in
     let d = c₃ .before .before .before .before in
     sym
-    (looped (r d) .loop .inv .2
-    ∙ turn-stops (seal d) _ (k (r d)) (lines d) (machine d) (looped (r d) .loop .memory) (before (r d)) _ (after d) (gives d (c₃ .turned .given .1)) (sym (c .before .is-made .ensures) ∙ not-true _ (c .if1 .taken)))
+    (looped (r d) .loop .inv .1
+    ∙ part-stops (seal d) _ (k (r d)) _ (lines d) (machine d) (looped (r d) .loop .memory) (turn-some _ _ (lines d) (machine d) (before (r d))) _ (after d) (gives d (c₃ .turned .given .1)) (sym (c .before .is-made .ensures) ∙ not-true _ (c .if1 .taken)))
 
 -- what a turn leaves that was not the end
 goes : (c : tie.Else1 Inv-loop μ-loop)
@@ -125,7 +121,7 @@ goes : (c : tie.Else1 Inv-loop μ-loop)
 goes c =
     let c₃ = c .before .before .before in
     let d = c₃ .before .before .before .before in
-    turn-goes (seal d) _ (k (r d)) (lines d) (machine d) (looped (r d) .loop .memory) (before (r d)) _ (after d) (gives d (c₃ .turned .given .1)) (sym (c .before .is-made .ensures) ∙ not-false _ (c .if1 .left))
+    part-goes (seal d) _ (k (r d)) _ (lines d) (machine d) (looped (r d) .loop .memory) (turn-some _ _ (lines d) (machine d) (before (r d))) _ (after d) (gives d (c₃ .turned .given .1)) (sym (c .before .is-made .ensures) ∙ not-false _ (c .if1 .left))
 
 loop-less : tie.Need-loop-less Inv-loop μ-loop
 loop-less c = let d = c .before .before .before .before .before .before .before .before in omega (arith, goes (c .before), before (r d))
@@ -134,7 +130,7 @@ loop-again : tie.Need-loop-again Inv-loop μ-loop
 loop-again c =
     let d = c .before .before .before .before .before .before .before .before in
     let g = goes (c .before) in
-    (g .1, kept d, looped (r d) .loop .inv .2 ∙ g .2)
+    (kept d, looped (r d) .loop .inv .1 ∙ g .2)
 
 same-length-2 : tie.Need-same-length-2 Inv-loop μ-loop
 same-length-2 c = let d = c .before .before .before .before in omega (arith, kept d, s (r d) .pre)
@@ -145,11 +141,11 @@ returns-2 c =
     let told = c .enum-told .given .1 in
     rw told
     (sym
-    (looped (r d) .loop .inv .2
-    ∙ turn-halts (seal d) _ (k (r d)) (lines d) (machine d) (looped (r d) .loop .memory) (before (r d)) _ (after d) (gives d told)))
+    (looped (r d) .loop .inv .1
+    ∙ part-halts (seal d) _ (k (r d)) _ (lines d) (machine d) (looped (r d) .loop .memory) (turn-some _ _ (lines d) (machine d) (before (r d))) _ (after d) (gives d told)))
 
 same-length-3 : tie.Need-same-length-3 Inv-loop μ-loop
-same-length-3 c = let l = c .before .before in omega (arith, l .loop .inv .1, l .before .before .pre)
+same-length-3 c = let l = c .before .before in omega (arith, l .loop .inv .0, l .before .before .pre)
 
 returns-3 : tie.Need-returns-3 Inv-loop μ-loop
 returns-3 c =
@@ -158,7 +154,7 @@ returns-3 c =
     let over : a .bound - l .loop .steps ≡ 0 = omega (arith, c .before .loop-test .left) in
     rw (c .ran .ensures)
     (sym
-    (l .loop .inv .2
+    (l .loop .inv .1
     ∙ ap (λ (n : ℕ). guardedFull (inEither (now (a .pages)) (a .first) (a .last)) n (l .loop .steps) (a .lines) (l .loop .machine) (l .loop .memory)) over
     ∙ guarded-end _ _ _ _ _))
 

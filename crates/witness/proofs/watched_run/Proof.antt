@@ -1,10 +1,11 @@
 -- The length and the bound are tested, in that order, before any step; the stretch beside the pages is empty.
-use Prim.Native.Nat.{ℕ}
-use mathlib.Core.Path.{ap, sym, _∙_}
+use Prim.Native.Nat.{ℕ, _-_}
+use mathlib.Core.Path.{_≡_, ap, sym, _∙_}
+use native.Mathlib.Omega.{arith}
 use mathlib.Core.Bool.{Bool}
 use denote.Ref.{now}
 use borrow.Author.Needs.{needs}
-use Rattle.witness.specs.Guarded.{guardedFull}
+use Rattle.witness.specs.Guarded.{inEither, guardedFull}
 use Rattle.witness.specs.Laws.{pages-alone, guarded-short, guarded-long, guarded-whole}
 use Rattle.witness.proofs.watched_run.Statement.{statement}
 use Rattle.witness.proofs.watched_run.Tie as tie
@@ -20,7 +21,9 @@ returns-3 c =
     let c₂ = c .before .before in
     let c₄ = c₂ .before .before in
     let a = c₄ .before .before .before .args in
+    let all : a .bound - 0 ≡ a .bound = omega arith in
     c₂ .walk .ensures
+    ∙ ap (λ (n : ℕ). guardedFull (inEither (now (a .pages)) 1 0) n 0 (a .lines) (a .machine) (now (a .memory))) all
     ∙ ap (λ (seal : ℕ → Bool). guardedFull seal (a .bound) 0 (a .lines) (a .machine) (now (a .memory))) (pages-alone (now (a .pages)))
     ∙ sym (guarded-whole _ _ _ _ _ _ (c₄ .before .if1 .left) (c₄ .if2 .left))
 
