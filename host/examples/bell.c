@@ -2,7 +2,7 @@
  * in on NMI and ends it. Prints the count; the exit status is 0 where the program ended where it should.
  *
  *     rt staticlib mos6502
- *     cc -I host host/examples/bell.c target/staticlib/libmos6502.a -o target/bell
+ *     cc -I host/include host/examples/bell.c target/staticlib/libmos6502.a -o target/bell
  *     target/bell 3
  */
 #include <stdio.h>

@@ -2,7 +2,7 @@
  * answer, 2 for wrong usage.
  *
  *     rt staticlib traces_c
- *     cc -I host host/examples/check_trace.c target/staticlib/libtraces_c.a -o target/check_trace
+ *     cc -I host/include host/examples/check_trace.c target/staticlib/libtraces_c.a -o target/check_trace
  *     target/check_trace crates/trace/stdin crates/trace/stdout
  */
 #include <stdio.h>

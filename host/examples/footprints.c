@@ -5,7 +5,7 @@
  *     rt staticlib mos6502
  *     rt staticlib step_c
  *     rt staticlib footprint_c
- *     cc -I host host/examples/footprints.c target/staticlib/libstep_c.a target/staticlib/libmos6502.a target/staticlib/libfootprint_c.a -o target/footprints
+ *     cc -I host/include host/examples/footprints.c target/staticlib/libstep_c.a target/staticlib/libmos6502.a target/staticlib/libfootprint_c.a -o target/footprints
  *     target/footprints 4 crates/sealed/data/letter.img
  */
 #include <stdio.h>

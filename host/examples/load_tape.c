@@ -1,7 +1,7 @@
 /* load_tape TAPE: reads a paper tape onto zeros and says what was found. The exit status is the answer, 2 for wrong usage.
  *
  *     rt staticlib tapes_c
- *     cc -I host host/examples/load_tape.c target/staticlib/libtapes_c.a -o target/load_tape
+ *     cc -I host/include host/examples/load_tape.c target/staticlib/libtapes_c.a -o target/load_tape
  *     target/load_tape crates/load/stdin
  */
 #include <inttypes.h>

@@ -2,7 +2,7 @@
  * its line. The exit status is that of `./run report --stop STOP`: 0 only where it ended at STOP.
  *
  *     rt staticlib mos6502
- *     cc -I host host/examples/run_image.c target/staticlib/libmos6502.a -o target/run_image
+ *     cc -I host/include host/examples/run_image.c target/staticlib/libmos6502.a -o target/run_image
  *     target/run_image 0202 50000000 crates/report/stdin
  */
 #include <inttypes.h>

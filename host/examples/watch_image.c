@@ -3,7 +3,7 @@
  * status is the answer, 64 for wrong usage.
  *
  *     rt staticlib watch_c
- *     cc -I host host/examples/watch_image.c target/staticlib/libwatch_c.a -o target/watch_image
+ *     cc -I host/include host/examples/watch_image.c target/staticlib/libwatch_c.a -o target/watch_image
  *     target/watch_image 0400 04FF 2000 crates/sealed/data/letter.img
  */
 #include <stdio.h>

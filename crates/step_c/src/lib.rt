@@ -1,6 +1,6 @@
-// A step on numbers, for a host in C or Rust: see host/mos6502.h. It has an archive of its own: what a step does has one caller in
-// each, so that the compiler puts all of it into this function here, and there into the loop of the runs, which drops the address
-// that a step puts out first.
+// A step on numbers, for a host in C or Rust: see host/include/mos6502.h. It has an archive of its own: what a step does has one
+// caller in each, so that the compiler puts all of it into this function here, and there into the loop of the runs, which drops
+// the address that a step puts out first.
 ghost use Rattle.mos6502.specs.Calls.{StepCall};
 use cpu::turn;
 use manual::FULL_MEMORY;

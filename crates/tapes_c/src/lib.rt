@@ -1,4 +1,4 @@
-// The tapes and Intel HEX, for a host in C or Rust: see host/tapes.h.
+// The tapes and Intel HEX, for a host in C or Rust: see host/include/tapes.h.
 ghost use mathlib.Core.Path.{_≡_};
 ghost use Rattle.tapes.specs.Tapes.{readTape};
 ghost use Rattle.intelhex.specs.IntelHex.{readHex};

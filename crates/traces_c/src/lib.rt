@@ -1,4 +1,4 @@
-// The check of a recorded trace, for a host in C or Rust: see host/traces.h.
+// The check of a recorded trace, for a host in C or Rust: see host/include/traces.h.
 ghost use mathlib.Core.Path.{_≡_};
 ghost use Rattle.checking.specs.Checking.{checkedOf, checkedTrace};
 

@@ -1,5 +1,5 @@
-// The watched run on numbers, for a host in C or Rust: see host/watch.h. It is an archive of its own, so that its loop is the only
-// caller of the footprints in it: what has one caller is put into it.
+// The watched run on numbers, for a host in C or Rust: see host/include/watch.h. It is an archive of its own, so that its loop is
+// the only caller of the footprints in it: what has one caller is put into it.
 ghost use mathlib.Core.Path.{_≡_};
 ghost use Rattle.witness.specs.Guarded.{inPages, inStretch};
 ghost use Rattle.watch_c.specs.Watching.{watchNumbers, watchedOnNumbers, longWatchedOnNumbers};
