@@ -1,21 +1,22 @@
 # What the commands have in common; each sets `name`, and `machine` that its programs are for, and reads this in. An
-# argument that ends in .a is the port's archive, the others stay in "$@". It goes to the root of the repository.
+# argument that ends in .a is an archive of the port, the others stay in "$@". It goes to the root of the repository.
 # shellcheck shell=sh disable=SC2154,SC2034
 
 # docs/src is of edition 2024 and joins an `if let` by `&&`: older compilers than 1.88 refuse it.
 oldest=88
 
 out=target/host/$machine
-archive=
+# The part whose archive may be given: others stand beside it then. The parts are those of host/saxundeer/archives.txt.
+main=run
+given=
 for argument in "$@"; do
     shift
     case $argument in
-    /*.a) archive=$argument ;;
-    *.a) archive=$PWD/$argument ;;
+    /*.a) given=$argument ;;
+    *.a) given=$PWD/$argument ;;
     *) set -- "$@" "$argument" ;;
     esac
 done
-given=$archive
 cd "$(dirname "$0")/.." || exit 2
 
 # A program for another machine takes that machine's C compiler, which links too, and an emulator to run it.
@@ -50,18 +51,45 @@ compile() {
     "$rustc" $cross -C opt-level=3 -L dependency="$out" "$@"
 }
 
-# rust NAME ROOT OPTION...: one of this folder's roots.
+# rust CRATE FILE ROOT OPTION...: one of the workspace's crates.
 rust() {
-    target=$1 root=$2
-    shift 2
-    compile --edition 2024 -o "$out/$target" "$@" "$root" || stop 1 "$root does not build"
+    crate=$1 file=$2 root=$3
+    shift 3
+    compile --edition 2024 --crate-name "$crate" -o "$out/$file" "$@" "$root" || stop 1 "$root does not build"
 }
 
-# The Rust of docs/src, and the crate around it.
-build_oracle() {
+# The Rust of docs/src, and the libraries that the programs take. Not by cargo, which a bare machine does not have and which
+# would link every archive to each program: here saxundeer is whole, and a program is linked with the archives of what it calls.
+# The linker drops the rest.
+build_libraries() {
     host/build-oracle "$machine" >&2 || exit $?
     find_rustc "$machine"
-    rust liboracle.rlib host/oracle/lib.rs --crate-type rlib --crate-name oracle --extern mos6502="$out/libmos6502.rlib"
+    rust oracle liboracle.rlib host/oracle/src/lib.rs --crate-type rlib --extern mos6502="$out/libmos6502.rlib"
+    rust saxundeer libsaxundeer.rlib host/saxundeer/src/lib.rs --crate-type rlib --cfg 'feature="tapes"' \
+        --cfg 'feature="traces"' --cfg 'feature="watch"'
+    rust tools libtools.rlib host/tools/src/lib.rs --crate-type rlib --extern oracle="$out/liboracle.rlib" \
+        --extern saxundeer="$out/libsaxundeer.rlib"
+}
+
+# linked CRATE FILE ROOT PART...: a program of these libraries and of the archives of these parts.
+linked() {
+    crate=$1 file=$2 root=$3
+    shift 3
+    for part in "$@"; do
+        shift
+        find_archive "$part"
+        set -- "$@" -C link-arg="$found"
+    done
+    rust "$crate" "$file" "$root" "$@" --extern oracle="$out/liboracle.rlib" --extern saxundeer="$out/libsaxundeer.rlib" \
+        --extern tools="$out/libtools.rlib"
+}
+
+# tool NAME PART...: the program of a command.
+tool() {
+    tool=$1 root=host/tools/src/bin/$1.rs
+    shift
+    [ -f "$root" ] || root=host/tools/src/bin/$tool/main.rs
+    linked "$tool" "$tool" "$root" "$@"
 }
 
 need_rt() {
@@ -79,69 +107,28 @@ renew() {
     fi
 }
 
-# The port's archive, where none is given, and `step`, that of a step by itself.
+# archived PART: the crate whose archive has it.
+archived() {
+    sed -n "s/^$1  *\([a-z0-9_]*\) .*/\1/p" host/saxundeer/archives.txt
+}
+
+# find_archive PART: sets `found` to its archive, and `archive` too where that may be given. Where none is given it is proved
+# and built.
 find_archive() {
-    if [ -z "$archive" ]; then
-        case $machine in
-        x86_64) archive=target/staticlib/libmos6502.a builder='rt staticlib mos6502' ;;
-        *) archive=$out/libmos6502.a builder=host/native-archive ;;
-        esac
-        renew "$archive" "$builder"
-    fi
-    [ -f "$archive" ] || stop 2 "there is no archive $archive"
-    find_other step_c
-    step=$found
-}
-
-build_port() {
-    find_archive
-    rust libsaxundeer.rlib host/saxundeer/src/lib.rs --crate-type rlib --crate-name saxundeer
-}
-
-# program NAME OPTION...: one of the programs that run both cores.
-program() {
-    program=$1
-    shift
-    rust "$program" "host/$program.rs" "$@" --extern mos6502="$out/libmos6502.rlib" --extern oracle="$out/liboracle.rlib" \
-        --extern saxundeer="$out/libsaxundeer.rlib" -C link-arg="$archive" -C link-arg="$step"
-}
-
-# build_tapes ARCHIVE: the program that compares the tapes with srecord. It sets `tapes` to the archive, which is the proved
-# one where the argument is empty.
-build_tapes() {
-    tapes=$1
-    if [ -z "$tapes" ]; then
-        tapes=target/staticlib/libtapes_c.a
-        renew "$tapes" 'rt staticlib tapes_c'
-    fi
-    [ -f "$tapes" ] || stop 2 "there is no archive $tapes"
-    rust tapes host/tapes.rs --extern oracle="$out/liboracle.rlib" -C link-arg="$tapes"
-}
-
-# find_other CRATE: sets `found` to the archive of another crate. It is proved and built like the port's, or stands beside that
-# where one is given.
-find_other() {
-    if [ -n "$given" ]; then
-        found=$(dirname "$given")/lib$1.a
+    member=$(archived "$1")
+    if [ -n "$given" ] && [ "$1" = "$main" ]; then
+        found=$given
+    elif [ -n "$given" ]; then
+        found=$(dirname "$given")/lib$member.a
     elif [ "$machine" = x86_64 ]; then
-        found=target/staticlib/lib$1.a
-        renew "$found" "rt staticlib $1"
+        found=target/staticlib/lib$member.a
+        renew "$found" "rt staticlib $member"
     else
-        found=$out/lib$1.a
-        renew "$found" "host/native-archive $1"
+        found=$out/lib$member.a
+        renew "$found" "host/native-archive $member"
     fi
     [ -f "$found" ] || stop 2 "there is no archive $found"
-}
-
-# find_watch: sets `watch` to the archive of the watched run, and find_footprints `footprints` to that of the footprints.
-find_watch() {
-    find_other watch_c
-    watch=$found
-}
-
-find_footprints() {
-    find_other footprint_c
-    footprints=$found
+    [ "$1" != "$main" ] || archive=$found
 }
 
 # What the archive is: it names the logic that proved it, and only rt writes that mark.

@@ -1,43 +1,43 @@
-//! Links the proved archive. It is the one that SAXUNDEER_ARCHIVE names, or else target/staticlib/libmos6502.a of the
-//! repository, which `rt staticlib mos6502` proves and writes here where it is missing. An archive that is there is taken
-//! as it is: to follow a change of the core, run that command. libstep_c.a is linked too, with the feature `tapes`
-//! libtapes_c.a, with `traces` libtraces_c.a, and with `watch` libwatch_c.a and libfootprint_c.a; each stands beside the first
-//! one, or is written by `rt staticlib`.
+//! Links the proved archives of archives.txt: those that are always linked, and those of the features that are asked for. They
+//! stand in target/staticlib of the repository, where `rt staticlib` proves and writes what is missing; or SAXUNDEER_ARCHIVE
+//! names the archive of the runs, and the others stand beside that. An archive that is there is taken as it is: to follow a
+//! change of the core, run that command.
 
 use std::env;
 use std::path::{Path, PathBuf};
 use std::process::Command;
 
+const ARCHIVES: &str = include_str!("archives.txt");
+/// The part whose archive SAXUNDEER_ARCHIVE names.
+const NAMED: &str = "run";
+
 fn main() {
     println!("cargo::rerun-if-env-changed=SAXUNDEER_ARCHIVE");
     println!("cargo::rerun-if-changed=build.rs");
+    println!("cargo::rerun-if-changed=archives.txt");
     if let Err(fault) = link_all() {
         println!("cargo::error={fault}");
     }
 }
 
 fn link_all() -> Result<(), String> {
-    // The archive is compiled for one kind of machine.
+    // The archives are compiled for one kind of machine.
     if env::var("CARGO_CFG_TARGET_ARCH").as_deref() != Ok("x86_64") {
-        return Err("the proved archive is for x86-64 only".into());
+        return Err("the proved archives are for x86-64 only".into());
     }
-    let given = env::var_os("SAXUNDEER_ARCHIVE").map(PathBuf::from);
-    link("mos6502", given.clone())?;
-    let others = [
-        (None, "step_c"),
-        (Some("TAPES"), "tapes_c"),
-        (Some("TRACES"), "traces_c"),
-        (Some("WATCH"), "watch_c"),
-        (Some("WATCH"), "footprint_c"),
-    ];
-    for (feature, library) in others {
-        let asked = |name| env::var_os(format!("CARGO_FEATURE_{name}")).is_some();
-        if feature.is_none_or(asked) {
-            let beside = format!("lib{library}.a");
-            link(
-                library,
-                given.as_ref().map(|name| name.with_file_name(beside)),
-            )?;
+    let named = env::var_os("SAXUNDEER_ARCHIVE").map(PathBuf::from);
+    for line in ARCHIVES.lines().filter(|line| !line.starts_with('#')) {
+        let fields: Vec<&str> = line.split_whitespace().collect();
+        let [part, library, feature] = fields[..] else {
+            return Err(format!("archives.txt: {line}"));
+        };
+        let asked = format!("CARGO_FEATURE_{}", feature.to_uppercase());
+        if feature == "always" || env::var_os(asked).is_some() {
+            let given = named.clone().map(|archive| match part {
+                NAMED => archive,
+                _ => archive.with_file_name(format!("lib{library}.a")),
+            });
+            link(library, given)?;
         }
     }
     Ok(())

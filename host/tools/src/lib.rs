@@ -1,0 +1,5 @@
+//! What the programs of the commands have in common.
+
+pub mod options;
+pub mod states;
+pub mod ways;
