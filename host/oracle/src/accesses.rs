@@ -1,9 +1,16 @@
 //! The list of docs/RULES.md of the bytes that a step reads, written out from the rules alone, and the stores, of its
 //! sections on addresses and on flags.
 
-use crate::recorder::Access::{self, Read, Store};
 use crate::rules::{Entry, Kind};
 use crate::state::State;
+
+use Access::{Read, Store};
+
+#[derive(Clone, Copy, Debug, PartialEq, Eq)]
+pub enum Access {
+    Read(u16),
+    Store(u16),
+}
 
 impl Entry {
     /// Everything that the step reads and stores, in order.

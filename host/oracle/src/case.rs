@@ -2,9 +2,9 @@
 
 use std::fmt::{Display, Formatter, Result};
 
+use crate::accesses::Access;
 use crate::interrupts::Lines;
 use crate::random::Random;
-use crate::recorder::Access;
 use crate::rules::{self, Entry};
 use crate::state::State;
 
@@ -24,6 +24,14 @@ impl Case {
             lines: Lines::IDLE,
             bytes: Vec::with_capacity(8),
         }
+    }
+
+    /// One of an opcode, random, with all that its step reads.
+    pub fn random(entry: Entry, random: &mut Random) -> Case {
+        let mut case = Case::new(random.state());
+        case.put_code(&[entry.opcode]);
+        case.fill(random);
+        case
     }
 
     /// The case that a step from this state with these lines on this memory is.

@@ -80,7 +80,7 @@ fn lay(
 ) -> u16 {
     let mut laid = 0;
     while laid < size {
-        let entry = entries[random.below(entries.len())];
+        let entry = random.one_of(entries);
         let code = [entry.opcode, random.byte(), random.byte()];
         let length = usize::from(entry.mode.operand_bytes()) + 1;
         address = put(image, address, &code[..length]);
@@ -97,8 +97,8 @@ fn goes_on(entry: &Entry) -> bool {
 
 /// Every byte is an opcode, operands too: only the start address and what the program itself stores can stop it.
 fn opcodes_throughout(random: &mut Random) -> Vec<u8> {
-    let opcodes: Vec<u8> = rules::all().map(|entry| entry.opcode).collect();
-    let byte = || opcodes[random.below(opcodes.len())];
+    let opcodes = rules::opcodes();
+    let byte = || random.one_of(&opcodes);
     let mut image: Vec<u8> = std::iter::repeat_with(byte).take(SIZE).collect();
     put_address(&mut image, START, random.address());
     image
@@ -152,6 +152,6 @@ fn another_length(random: &mut Random) -> Vec<u8> {
     let mut image = loop_on_blank(random);
     let any = random.below(SIZE);
     let lengths = [0, 1, SIZE - 1, SIZE + 1, 2 * SIZE, any, SIZE + 1 + any];
-    image.resize(lengths[random.below(lengths.len())], 0);
+    image.resize(random.one_of(&lengths), 0);
     image
 }

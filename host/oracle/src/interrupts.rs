@@ -3,8 +3,8 @@
 
 use std::fmt::{Display, Formatter, Result};
 
+use crate::accesses::Access::{self, Read, Store};
 use crate::addresses::join;
-use crate::recorder::Access::{self, Read, Store};
 use crate::state::State;
 
 #[derive(Clone, Copy, Debug, PartialEq, Eq)]

@@ -1,9 +1,9 @@
 //! The differences inside the domain of comparison that docs/DIFFERENCES.md lists: each told by its cause in the input, and
 //! by nothing wider, with what the rules demand in place of the Rust's result.
 
+use crate::accesses::Access;
 use crate::addresses::join;
 use crate::case::Case;
-use crate::recorder::Access;
 use crate::rules::{Kind, Mode};
 use crate::state::State;
 

@@ -1,20 +1,12 @@
 //! The Rust's lines: the inputs of docs/DIFFERENCES.md, and what the rules have a line do.
 
+use crate::accesses::Access::{Read, Store};
 use crate::case::Case;
 use crate::interrupts::{Level, Line, Lines};
-use crate::recorder::Access::{Read, Store};
 use crate::recorder::Core;
 use crate::state::State;
+use crate::tests::STATE;
 
-const STATE: State = State {
-    counter: 0x0200,
-    accumulator: 0,
-    x: 0,
-    y: 0,
-    stack: 0xFF,
-    status: 0,
-    cycles: 0,
-};
 const MASKED: State = State {
     status: State::MASK,
     ..STATE
@@ -40,7 +32,7 @@ fn core(code: &[u8]) -> Core {
     ] {
         case.put(address, byte);
     }
-    Core::of_case(&case)
+    Core::new(case.memory())
 }
 
 /// What stands on the stack, the last pushed byte last.

@@ -16,6 +16,15 @@ pub const START: State = State {
     cycles: 0,
 };
 
+/// The state with which the program report starts an image: that one, but for the counter.
+#[must_use]
+pub fn start_of(image: &[u8]) -> State {
+    State {
+        counter: u16::from_le_bytes([image[0xFFFC], image[0xFFFD]]),
+        ..START
+    }
+}
+
 pub struct Loop {
     pub name: &'static str,
     pub image: Vec<u8>,

@@ -1,8 +1,6 @@
 //! Numbers that follow from a seed (SplitMix64), and random inputs: half of their bytes and addresses are such where
 //! something ends or turns over.
 
-use crate::case::Case;
-use crate::rules::Entry;
 use crate::state::State;
 
 const BYTES: [u8; 12] = [
@@ -31,6 +29,11 @@ impl Random {
     /// A number below `limit`.
     pub fn below(&mut self, limit: usize) -> usize {
         (self.draw() % limit as u64) as usize
+    }
+
+    /// One of a list.
+    pub fn one_of<T: Copy>(&mut self, list: &[T]) -> T {
+        list[self.below(list.len())]
     }
 
     pub fn any_byte(&mut self) -> u8 {
@@ -79,13 +82,5 @@ impl Random {
             status: self.any_byte(),
             cycles: 0,
         }
-    }
-
-    /// A case of one opcode, with all that its step reads.
-    pub fn case(&mut self, entry: Entry) -> Case {
-        let mut case = Case::new(self.state());
-        case.put_code(&[entry.opcode]);
-        case.fill(self);
-        case
     }
 }

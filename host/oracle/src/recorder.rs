@@ -4,15 +4,9 @@ use mos6502::cpu::CPU;
 use mos6502::instruction::Nmos6502;
 use mos6502::memory::Bus;
 
-use crate::case::Case;
+use crate::accesses::Access;
 use crate::interrupts::{Level, Lines};
 use crate::state::State;
-
-#[derive(Clone, Copy, Debug, PartialEq, Eq)]
-pub enum Access {
-    Read(u16),
-    Store(u16),
-}
 
 struct Recorder {
     bytes: Vec<u8>,
@@ -71,12 +65,6 @@ impl Core {
             blind: false,
         };
         Core(CPU::new(recorder, Nmos6502))
-    }
-
-    /// A core on the bytes of a case, all others 0.
-    #[must_use]
-    pub fn of_case(case: &Case) -> Core {
-        Core::new(case.memory())
     }
 
     /// One step with idle lines; none where the Rust says that it made none.

@@ -162,6 +162,12 @@ pub fn all() -> impl Iterator<Item = Entry> {
     TABLE.iter().flatten().copied()
 }
 
+/// Their opcodes.
+#[must_use]
+pub fn opcodes() -> Vec<u8> {
+    all().map(|entry| entry.opcode).collect()
+}
+
 impl Mode {
     #[must_use]
     pub fn operand_bytes(self) -> u16 {

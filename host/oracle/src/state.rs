@@ -9,6 +9,8 @@ use mos6502::memory::Bus;
 use mos6502::registers::{StackPointer, Status};
 
 const FLAGS: u8 = 0b1100_1111;
+/// The highest count of cycles from which the rules make a step.
+pub const HIGHEST_COUNT: u64 = u64::MAX - 7;
 
 #[derive(Clone, Copy, Debug, PartialEq, Eq)]
 pub struct State {

@@ -1,12 +1,14 @@
+//! The rules' lists, the listed differences and the inputs.
+
+use crate::accesses::Access::{self, Read, Store};
 use crate::case::Case;
 use crate::known::{self, Known};
 use crate::random::Random;
-use crate::recorder::Access::{Read, Store};
-use crate::recorder::{Access, Core};
+use crate::recorder::Core;
 use crate::rules;
 use crate::state::State;
 
-const STATE: State = State {
+pub(crate) const STATE: State = State {
     counter: 0x0200,
     accumulator: 0,
     x: 0,
@@ -152,7 +154,7 @@ fn a_call_that_overwrites_itself_is_known_by_its_cause() {
         let mut case = case(counter, &[0x20, low, high]);
         case.state.stack = stack;
         assert!(known::cause(&case) == known);
-        let after = Core::of_case(&case).step(&case.state).expect("a step");
+        let after = Core::new(case.memory()).step(&case.state).expect("a step");
         assert_eq!(after.counter, rust);
         let demanded = known::demanded(&case, &after).expect("as is listed");
         assert_eq!(
@@ -171,7 +173,7 @@ fn no_step_has_more_than_five_reads_and_three_stores() {
     let mut random = Random::new(1);
     for entry in rules::all() {
         for _ in 0..100 {
-            let list = listed(&random.case(entry));
+            let list = listed(&Case::random(entry, &mut random));
             let stores = list
                 .iter()
                 .filter(|access| matches!(access, Store(_)))
@@ -185,10 +187,10 @@ fn no_step_has_more_than_five_reads_and_three_stores() {
 fn a_case_steps_alike_on_its_own_bytes_and_on_more() {
     let mut random = Random::new(2);
     for entry in rules::all() {
-        let mut case = random.case(entry);
+        let mut case = Case::random(entry, &mut random);
         let smallest = case.smallest();
         case.put(0x5555, 0xAA);
-        let [all, few] = [&case, &smallest].map(|case| Core::of_case(case).step(&case.state));
+        let [all, few] = [&case, &smallest].map(|case| Core::new(case.memory()).step(&case.state));
         assert_eq!(all, few);
     }
 }

@@ -110,9 +110,7 @@ fn round(
     plant: bool,
     counts: &mut Counts,
 ) -> Result<(), String> {
-    let mut memory: Vec<u8> = (0..65_536)
-        .map(|_| opcodes[random.below(opcodes.len())])
-        .collect();
+    let mut memory: Vec<u8> = (0..65_536).map(|_| random.one_of(opcodes)).collect();
     let first = random.address();
     let range = first..=first.saturating_add(random.below(4_096) as u16);
     let start = State {
@@ -190,9 +188,7 @@ fn round(
 
 fn compare(options: &Options) -> Result<Counts, String> {
     let mut random = Random::new(options.number("--seed", 6502));
-    let opcodes: Vec<u8> = (0..=0xFF)
-        .filter(|opcode| rules::entry(*opcode).is_some())
-        .collect();
+    let opcodes = rules::opcodes();
     let mut counts = Counts::default();
     while counts.steps < options.number("--steps", 1_000_000) {
         let number = counts.rounds + 1;

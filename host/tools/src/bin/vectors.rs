@@ -4,14 +4,15 @@
 use std::convert::Infallible;
 use std::process::ExitCode;
 
+use oracle::accesses::Access;
 use oracle::case::Case;
 use oracle::edges;
 use oracle::interrupts::{Line, Lines};
 use oracle::known;
 use oracle::random::Random;
-use oracle::recorder::{Access, Core};
+use oracle::recorder::Core;
 use oracle::rules::{self, Entry};
-use oracle::state::State;
+use oracle::state::{HIGHEST_COUNT, State};
 use oracle::sums;
 use tools::options::Options;
 
@@ -55,7 +56,7 @@ impl Choice {
 fn chosen(random: &mut Random, of_opcode: usize, of_class: usize) -> Vec<Case> {
     let mut cases = Vec::new();
     for entry in rules::all() {
-        let drawn = std::iter::repeat_with(|| random.case(entry));
+        let drawn = std::iter::repeat_with(|| Case::random(entry, random));
         cases.extend(
             drawn
                 .filter(|case| known::cause(case).is_none())
@@ -82,7 +83,7 @@ fn chosen(random: &mut Random, of_opcode: usize, of_class: usize) -> Vec<Case> {
 fn enough(mut cases: Vec<Case>, wanted: usize, random: &mut Random) -> Vec<Case> {
     let opcodes: Vec<Entry> = rules::all().collect();
     while cases.len() < wanted {
-        let case = random.case(opcodes[cases.len() % opcodes.len()]);
+        let case = Case::random(opcodes[cases.len() % opcodes.len()], random);
         if known::cause(&case).is_none() {
             cases.push(case);
         }
@@ -90,8 +91,6 @@ fn enough(mut cases: Vec<Case>, wanted: usize, random: &mut Random) -> Vec<Case>
     cases
 }
 
-/// The highest count of cycles from which a step is made.
-const HIGHEST_COUNT: u64 = u64::MAX - 7;
 /// What is set of a random state and its opcode.
 type Edge = fn(&mut State, &mut u8);
 
@@ -108,7 +107,7 @@ const LINE_EDGES: [Edge; 7] = [
 
 /// So many random cases of every combination of the levels, the last one of NMI and I, then one of each edge.
 fn with_lines(random: &mut Random, of_levels: usize) -> Vec<Case> {
-    let opcodes: Vec<Entry> = rules::all().collect();
+    let opcodes = rules::opcodes();
     let mut edges: Vec<Edge> = vec![|_, _| {}; of_levels];
     edges.extend(LINE_EDGES);
     let mut cases = Vec::new();
@@ -116,7 +115,7 @@ fn with_lines(random: &mut Random, of_levels: usize) -> Vec<Case> {
         for mask in [0, State::MASK] {
             for edge in &edges {
                 let drawn = std::iter::repeat_with(|| {
-                    let mut opcode = opcodes[random.below(opcodes.len())].opcode;
+                    let mut opcode = random.one_of(&opcodes);
                     let mut case = Case {
                         lines,
                         ..Case::new(random.state())
@@ -201,7 +200,7 @@ impl Ending {
 }
 
 fn by_the_rust(case: &Case) -> Result<(State, Cells), String> {
-    let mut core = Core::of_case(case);
+    let mut core = Core::new(case.memory());
     let after = core
         .step_with(&case.state, case.lines)
         .ok_or(format!("the Rust made no step: {case}"))?;

@@ -1,10 +1,15 @@
 //! Runs the Rust of docs/src and the port side by side and compares them after every step.
 
+mod by_cycles;
+mod counts;
+mod fault;
+mod idle;
 mod pair;
-mod parts;
+mod part;
+mod rows;
 mod served;
 mod shrink;
-mod spent;
+mod with_lines;
 
 use std::io::IsTerminal;
 use std::process::ExitCode;
@@ -15,22 +20,15 @@ use oracle::random::Random;
 use oracle::rules;
 use tools::options::Options;
 
-use pair::{Fault, Firsts, Pair, Plant};
-use served::Calls;
-use spent::Spent;
+use counts::{ByCycles, Calls, Firsts};
+use fault::{Fault, PLANTS, Plant};
+use pair::Pair;
+use part::Part;
+use rows::{LineRow, Row, print_listed};
 
 const USAGE: &str = "usage: host/compare [--native] [--seed N] [--steps N] \
                      [--plant | --plant-first | --plant-call | --plant-break | --plant-level | --plant-limit] \
                      [ARCHIVE]";
-/// The marks for the planted faults.
-const PLANTS: [(&str, Plant); 6] = [
-    ("--plant", Plant::Store),
-    ("--plant-first", Plant::First),
-    ("--plant-call", Plant::Call),
-    ("--plant-break", Plant::Break),
-    ("--plant-level", Plant::Level),
-    ("--plant-limit", Plant::Limit),
-];
 /// The line of progress is renewed after so many steps.
 const STRIDE: u64 = 250_000;
 
@@ -45,58 +43,6 @@ fn tell_now_and_then(part: &str, steps: u64, told: &mut u64) {
     if steps - *told >= STRIDE {
         *told = steps;
         tell(&format!("compare: {part}, {steps} steps so far"));
-    }
-}
-
-/// A sentence for what is listed, and the counts by opcode.
-fn print_listed(sentence: &str, counts: &[u64; 256]) {
-    let by_opcode = (0..=0xFF_u8).zip(counts);
-    let by_opcode = by_opcode.filter(|(_, count)| **count > 0);
-    let by_opcode: Vec<String> = by_opcode
-        .map(|(opcode, count)| format!("{opcode:02X} {count}"))
-        .collect();
-    println!("listed: {sentence}");
-    println!("  by opcode: {}", by_opcode.join(", "));
-}
-
-/// The steps of a part and how many of them differ, by what is listed.
-struct Row {
-    name: String,
-    steps: u64,
-    listed: [u64; known::ALL.len()],
-}
-
-impl Row {
-    fn print(&self) {
-        let equal = self.steps - self.listed.iter().sum::<u64>();
-        print!("{:26}{:10}{equal:12}", self.name, self.steps);
-        println!(
-            "{}",
-            self.listed.map(|count| format!("{count:16}")).concat()
-        );
-    }
-}
-
-/// The port's steps of a part with lines, by what they were: an opcode, a line, a refusal.
-struct LineRow {
-    name: &'static str,
-    counts: [u64; 5],
-}
-
-impl LineRow {
-    const HEADS: [&'static str; 6] = [
-        "steps",
-        "opcodes",
-        "NMI served",
-        "IRQ served",
-        "refused, 2",
-        "refused, 3",
-    ];
-
-    fn print(&self) {
-        let all = self.counts.iter().sum::<u64>();
-        let counts = self.counts.map(|count| format!("{count:12}"));
-        println!("{:26}{all:10}{}", self.name, counts.concat());
     }
 }
 
@@ -131,12 +77,13 @@ impl Comparison {
     fn part(
         &mut self,
         name: &str,
-        part: impl FnOnce(&mut Pair, &mut Random, &mut dyn FnMut(u64)) -> Result<(), Fault>,
+        compare: impl FnOnce(Part) -> Result<(), Fault>,
     ) -> Result<(), Fault> {
         let before = self.row(name, None);
-        let told = &mut self.told;
-        part(&mut self.pair, &mut self.random, &mut |steps| {
-            tell_now_and_then(name.trim(), steps, told);
+        compare(Part {
+            pair: &mut self.pair,
+            random: &mut self.random,
+            progress: &mut |steps| tell_now_and_then(name.trim(), steps, &mut self.told),
         })?;
         self.rows.push(self.row(name, Some(&before)));
         Ok(())
@@ -144,23 +91,21 @@ impl Comparison {
 
     /// By default 100,000 random states for each of the 151 opcodes and 5 million steps in long runs.
     fn all(&mut self, steps: u64) -> Result<(), Fault> {
-        self.part("random states", |pair, random, mut progress| {
-            parts::random_states(pair, random, steps.div_ceil(200), &mut progress)
+        self.part("random states", |part| {
+            idle::random_states(part, steps.div_ceil(200))
         })?;
         self.directed_edges()?;
-        self.part("all sums", |pair, random, _| parts::all_sums(pair, random))?;
-        self.part("long runs", |pair, random, mut progress| {
-            parts::long_runs(pair, random, steps.div_ceil(4), &mut progress)
-        })?;
+        self.part("all sums", idle::all_sums)?;
+        self.part("long runs", |part| idle::long_runs(part, steps.div_ceil(4)))?;
         self.told = 0;
-        self.part_with_lines("the same call", |pair, random, mut progress| {
-            parts::same_calls(pair, random, steps.div_ceil(20_000), &mut progress)
+        self.part_with_lines("the same call", |part| {
+            with_lines::same_calls(part, steps.div_ceil(20_000))
         })?;
-        self.part_with_lines("runs, a step later", |pair, random, mut progress| {
-            parts::runs_with_lines(pair, random, steps.div_ceil(20), &mut progress)
+        self.part_with_lines("runs, a step later", |part| {
+            with_lines::runs_with_lines(part, steps.div_ceil(20))
         })?;
-        self.part_with_lines("runs by cycles", |pair, random, mut progress| {
-            spent::runs_by_cycles(pair, random, steps.div_ceil(20_000), &mut progress)
+        self.part_with_lines("runs by cycles", |part| {
+            by_cycles::runs_by_cycles(part, steps.div_ceil(20_000))
         })
     }
 
@@ -173,12 +118,14 @@ impl Comparison {
     fn part_with_lines(
         &mut self,
         name: &'static str,
-        part: impl FnOnce(&mut Pair, &mut Random, &mut dyn FnMut(u64)) -> Result<(), Fault>,
+        compare: impl FnOnce(Part) -> Result<(), Fault>,
     ) -> Result<(), Fault> {
         let before = self.counts_with_lines();
-        let told = &mut self.told;
-        part(&mut self.lines, &mut self.random, &mut |steps| {
-            tell_now_and_then(&format!("with lines, {name}"), steps, told);
+        let part = format!("with lines, {name}");
+        compare(Part {
+            pair: &mut self.lines,
+            random: &mut self.random,
+            progress: &mut |steps| tell_now_and_then(&part, steps, &mut self.told),
         })?;
         let mut counts = self.counts_with_lines();
         for (count, before) in counts.iter_mut().zip(before) {
@@ -194,8 +141,8 @@ impl Comparison {
         let before = self.row("", None);
         let mut counts = Random::new(self.random.draw());
         for (class, name) in edges::CLASSES {
-            self.part(&format!("  {name}"), |pair, random, mut progress| {
-                parts::directed_edges(pair, class, random, &mut counts, &mut progress)
+            self.part(&format!("  {name}"), |part| {
+                idle::directed_edges(part, class, &mut counts)
             })?;
         }
         let all = self.row("directed edges", Some(&before));
@@ -256,7 +203,7 @@ impl Comparison {
             alike,
             cleared,
             set,
-            by_cycles: Spent { answers, over },
+            by_cycles: ByCycles { answers, over },
             ..
         } = &self.lines.calls;
         println!(
@@ -322,14 +269,13 @@ fn main() -> ExitCode {
             ExitCode::SUCCESS
         }
         Err(fault) => {
-            let fault = shrink::shrunk(fault, plant);
+            let (case, what) = shrink::shrunk(fault, plant);
             let with_lines: u64 = comparison.counts_with_lines().iter().sum();
             println!(
-                "the cores differ at step {} in {}",
-                comparison.pair.steps + with_lines,
-                fault.what
+                "the cores differ at step {} in {what}",
+                comparison.pair.steps + with_lines
             );
-            if let Some(case) = fault.case {
+            if let Some(case) = case {
                 println!("smallest input: {case}");
                 println!(
                     "  opcode, counter, A, X, Y, S, status, cycles | byte@address, all other bytes 0 | lines, if not idle"

@@ -1,54 +1,21 @@
 //! Both cores on equal memories, compared after every step.
 
+use oracle::accesses::Access;
 use oracle::addresses::Aim;
 use oracle::case::Case;
-use oracle::interrupts;
+use oracle::interrupts::Lines;
 use oracle::known;
-use oracle::recorder::{Access, Core};
+use oracle::recorder::Core;
 use oracle::rules;
 use oracle::state::{Names, RUST_AND_PORT, State, byte_difference, difference};
-use saxundeer::{Level, Lines, Machine, StepAnswer};
-use tools::states::{machine_of, state_of};
+use saxundeer::{Machine, StepAnswer};
+use tools::states::{given, level_of, state_of};
 
-use crate::served::Calls;
+use crate::counts::{Calls, Firsts};
+use crate::fault::{Fault, Plant};
 
 /// The port's stores cannot be seen, so that after so many steps all 65,536 bytes are compared.
 const WINDOW: usize = 256;
-
-/// What differed, and on which input; none where it was no single step.
-pub struct Fault {
-    pub case: Option<Case>,
-    pub what: String,
-}
-
-/// A fault that is put into the port's results, to show that it is found.
-#[derive(Clone, Copy, PartialEq, Eq)]
-pub enum Plant {
-    None,
-    /// STA (FF),Y, whose pointer turns over in the zero page, stores a byte with the lowest bit turned.
-    Store,
-    /// The address put out first has the carry, as the final one has.
-    First,
-    /// JSR reads its high operand byte before the pushes, as the Rust does.
-    Call,
-    /// The status that is pushed for a line has bit 4 set, as BRK's has.
-    Break,
-    /// A step does not record the level of NMI.
-    Level,
-    /// A run by cycles has a limit that is one too high.
-    Limit,
-}
-
-/// The steps by what their address put out first is.
-#[derive(Default)]
-pub struct Firsts {
-    /// The mode has no address.
-    pub none: u64,
-    /// The final address.
-    pub last: u64,
-    /// Another one: the index carried.
-    pub uncarried: u64,
-}
 
 pub struct Pair {
     pub rust: Core,
@@ -67,26 +34,6 @@ pub struct Pair {
     pub stores: u64,
     /// What was compared with lines.
     pub calls: Calls,
-}
-
-fn level_of(level: interrupts::Level) -> Level {
-    match level {
-        interrupts::Level::High => Level::High,
-        interrupts::Level::Low => Level::Low,
-    }
-}
-
-/// What the port is given: the machine with the last level, and the present ones.
-pub fn given(state: &State, lines: interrupts::Lines) -> (Machine, Lines) {
-    let machine = Machine {
-        last_nmi: level_of(lines.last_nmi),
-        ..machine_of(state)
-    };
-    let lines = Lines {
-        irq: level_of(lines.irq),
-        nmi: level_of(lines.nmi),
-    };
-    (machine, lines)
 }
 
 impl Pair {
@@ -112,6 +59,13 @@ impl Pair {
         self.memory[usize::from(address)] = byte;
     }
 
+    /// All bytes, in both cores.
+    pub fn lay(&mut self, memory: &[u8]) {
+        for (address, byte) in (0..=0xFFFF).zip(memory) {
+            self.put(address, *byte);
+        }
+    }
+
     /// The step of a case, on whatever else stands in memory.
     pub fn step_case(&mut self, case: &Case) -> Result<State, Fault> {
         self.put_all(case);
@@ -128,7 +82,7 @@ impl Pair {
     pub(crate) fn port_step(
         &mut self,
         before: &State,
-        lines: interrupts::Lines,
+        lines: Lines,
         spoil: impl FnOnce(&mut Pair, &mut Machine, &mut u16),
     ) -> StepAnswer {
         let (machine, levels) = given(before, lines);
@@ -144,7 +98,7 @@ impl Pair {
 
     /// One step of both with these lines, none of which is due, and the state after it by the rules. The byte at the counter
     /// must be one of the 151.
-    pub fn step(&mut self, before: &State, lines: interrupts::Lines) -> Result<State, Fault> {
+    pub fn step(&mut self, before: &State, lines: Lines) -> Result<State, Fault> {
         let opcode = self.memory[usize::from(before.counter)];
         let entry = rules::entry(opcode).expect("a case of no opcode");
         let byte = |address| self.memory[usize::from(address)];
@@ -161,10 +115,7 @@ impl Pair {
         let judged = self.judge(&case, aim, rust, answer);
         self.window.push(case.clone());
         match judged {
-            Err(what) => Err(Fault {
-                case: Some(case),
-                what,
-            }),
+            Err(what) => Err(Fault::of_step(case, what)),
             Ok(after) if self.window.len() < WINDOW => Ok(after),
             Ok(after) => self.compare_all_bytes(RUST_AND_PORT).map(|()| after),
         }
@@ -268,28 +219,35 @@ impl Pair {
         }
     }
 
-    /// All bytes; where one differs, the cases since the last time are asked one by one which of them it was, if there are more
-    /// than one.
+    /// All bytes; where one differs, one of the cases since the last time is the input.
     pub fn compare_all_bytes(&mut self, names: Names) -> Result<(), Fault> {
-        if self.rust.bytes() == self.memory {
-            self.window.clear();
-            return Ok(());
+        match byte_difference(names, self.rust.bytes(), &self.memory) {
+            None => {
+                self.window.clear();
+                Ok(())
+            }
+            Some(what) => Err(Fault {
+                cases: std::mem::take(&mut self.window),
+                what,
+            }),
         }
-        let window = std::mem::take(&mut self.window);
-        let what = byte_difference(names, self.rust.bytes(), &self.memory).unwrap_or_default();
-        let is_alone = window.len() == 1;
-        let guilty = window
-            .iter()
-            .find(|case| is_alone || fault_of(case, self.plant).is_some());
-        Err(Fault {
-            case: guilty.cloned(),
-            what,
-        })
+    }
+
+    /// All bytes of both cores, and of a memory on which the port's runs made the same steps up to this state.
+    pub fn compare_with_runs(&mut self, state: State, memory: &[u8]) -> Result<(), Fault> {
+        self.compare_all_bytes(RUST_AND_PORT)?;
+        match byte_difference(RUST_AND_PORT, self.rust.bytes(), memory) {
+            None => Ok(()),
+            Some(what) => Err(Fault::of_run(
+                state,
+                format!("after the port's runs: {what}"),
+            )),
+        }
     }
 }
 
 /// That the step recorded the present level of NMI.
-pub fn judge_level(machine: &Machine, lines: interrupts::Lines) -> Result<(), String> {
+pub fn judge_level(machine: &Machine, lines: Lines) -> Result<(), String> {
     if machine.last_nmi == level_of(lines.nmi) {
         return Ok(());
     }
@@ -297,13 +255,4 @@ pub fn judge_level(machine: &Machine, lines: interrupts::Lines) -> Result<(), St
         "the last level of NMI: the rules {:?}, the port {:?}",
         lines.nmi, machine.last_nmi
     ))
-}
-
-/// What differs in the step of a case on an otherwise empty memory, all bytes compared.
-pub fn fault_of(case: &Case, plant: Plant) -> Option<String> {
-    let mut pair = Pair::new(case.memory(), plant);
-    match pair.same_call(case) {
-        Ok(()) => byte_difference(RUST_AND_PORT, pair.rust.bytes(), &pair.memory),
-        Err(fault) => Some(fault.what),
-    }
 }

@@ -1,60 +1,18 @@
 //! Steps with lines. The Rust looks at its lines after an instruction, within the same call, and the port before an opcode, in
 //! a step by itself: what each of them does is held to the rules' step that serves a line, and to each other.
 
+use oracle::accesses::Access;
 use oracle::case::Case;
 use oracle::interrupts::{Line, Lines};
-use oracle::recorder::Access;
 use oracle::state::{Names, RUST_AND_PORT, State, difference};
 use saxundeer::{HIGHEST_CYCLES, Machine, StepAnswer};
-use tools::states::state_of;
+use tools::states::{given, state_of};
 
-use crate::pair::{Fault, Pair, given, judge_level};
-use crate::spent::Spent;
+use crate::fault::Fault;
+use crate::pair::{Pair, judge_level};
 
 const RULES_AND_PORT: Names = ["the rules", "the port"];
 const LISTED_AND_RUST: Names = ["the list", "the Rust"];
-
-/// What was compared with lines.
-pub struct Calls {
-    /// The calls that were made in both cores.
-    pub in_both: u64,
-    /// Those of the first part by the levels and I: the number of `Lines`, and 8 more with I set.
-    pub by_levels: [u64; 16],
-    /// The calls of the Rust that served a line.
-    pub by_the_rust: u64,
-    /// The steps of the port that served NMI, and IRQ.
-    pub nmi: u64,
-    pub irq: u64,
-    /// The steps that the port refused with 2, and with 3.
-    pub no_room: u64,
-    pub no_opcode: u64,
-    /// Instructions after which both served a line, or neither did, and ended alike but for the cycles.
-    pub alike: u64,
-    /// Instructions that cleared I while IRQ was low, so that the Rust did not yet serve it, by opcode.
-    pub cleared: [u64; 256],
-    /// Instructions that set I while IRQ was low, so that the Rust still served it, by opcode.
-    pub set: [u64; 256],
-    /// The runs by cycles.
-    pub by_cycles: Spent,
-}
-
-impl Default for Calls {
-    fn default() -> Calls {
-        Calls {
-            in_both: 0,
-            by_levels: [0; 16],
-            by_the_rust: 0,
-            nmi: 0,
-            irq: 0,
-            no_room: 0,
-            no_opcode: 0,
-            alike: 0,
-            cleared: [0; 256],
-            set: [0; 256],
-            by_cycles: Spent::default(),
-        }
-    }
-}
 
 /// What a call of the Rust with lines came to: the instruction alone, and all of it.
 pub struct Called {
@@ -79,10 +37,7 @@ impl Pair {
                 .collect(),
             ..Case::new(*before)
         };
-        Fault {
-            case: Some(case.smallest()),
-            what,
-        }
+        Fault::of_step(case.smallest(), what)
     }
 
     /// A step that serves a line: the byte at the counter, which is not read, and the vector.

@@ -2,28 +2,44 @@
 
 use oracle::case::Case;
 use oracle::interrupts::Level;
+use oracle::state::{RUST_AND_PORT, byte_difference};
 
-use crate::pair::{Fault, Plant, fault_of};
+use crate::fault::{Fault, Plant};
+use crate::pair::Pair;
 
-/// The same fault's smallest input; as it came where it does not show on an otherwise empty memory.
-pub fn shrunk(fault: Fault, plant: Plant) -> Fault {
-    let smallest = fault.case.as_ref().map(Case::smallest);
-    let found = smallest.and_then(|case| fault_of(&case, plant).map(|what| (case, what)));
-    let Some((mut case, mut what)) = found else {
-        return fault;
+/// What differs in the step of a case on an otherwise empty memory, all bytes compared.
+fn differs(case: &Case, plant: Plant) -> Option<String> {
+    let mut pair = Pair::new(case.memory(), plant);
+    match pair.same_call(case) {
+        Ok(()) => byte_difference(RUST_AND_PORT, pair.rust.bytes(), &pair.memory),
+        Err(fault) => Some(fault.what),
+    }
+}
+
+/// The one case of a fault on which it shows, if there are more than one.
+fn guilty(cases: Vec<Case>, plant: Plant) -> Option<Case> {
+    let is_alone = cases.len() == 1;
+    let mut cases = cases.into_iter();
+    cases.find(|case| is_alone || differs(case, plant).is_some())
+}
+
+/// What a fault is, on its smallest input; on the one that it came with where it does not show on an otherwise empty memory.
+pub fn shrunk(fault: Fault, plant: Plant) -> (Option<Case>, String) {
+    let Some(guilty) = guilty(fault.cases, plant) else {
+        return (None, fault.what);
+    };
+    let mut case = guilty.smallest();
+    let Some(mut what) = differs(&case, plant) else {
+        return (Some(guilty), fault.what);
     };
     // Every smaller case that still differs is taken, until none does.
-    while let Some((smaller, differs)) = candidates(&case)
+    while let Some((smaller, still)) = candidates(&case)
         .into_iter()
-        .find_map(|smaller| fault_of(&smaller, plant).map(|what| (smaller, what)))
+        .find_map(|smaller| differs(&smaller, plant).map(|what| (smaller, what)))
     {
-        case = smaller;
-        what = differs;
+        (case, what) = (smaller, still);
     }
-    Fault {
-        case: Some(case),
-        what,
-    }
+    (Some(case), what)
 }
 
 /// The case with one thing less in it: each register as after a reset, each flag clear, each line high, each byte but the one

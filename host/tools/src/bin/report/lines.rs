@@ -1,12 +1,9 @@
 //! The line that docs/RULES.md demands of the program report, by the Rust.
 
-use oracle::case::Case;
 use oracle::images::SIZE;
 use oracle::known;
 use oracle::loops;
-use oracle::recorder::Core;
-use oracle::rules;
-use oracle::state::State;
+use oracle::walk::Walk;
 
 /// The most steps.
 const BOUND: usize = 1_000;
@@ -29,53 +26,36 @@ impl Report {
     }
 }
 
-/// The Rust's memory cannot be of another length: there the line is the rules' alone. Some of the bytes that are
-/// not among the 151 the Rust would execute, so that they are looked for before each step.
+/// The Rust's memory cannot be of another length: there the line is the rules' alone.
 pub fn report(image: &[u8]) -> Result<Report, String> {
+    let mut opcodes = Vec::with_capacity(BOUND);
+    let mut listed = [0; known::ALL.len()];
     if image.len() != SIZE {
         return Ok(Report {
             reason: 1,
-            opcodes: Vec::new(),
-            listed: [0; known::ALL.len()],
+            opcodes,
+            listed,
             line: "1\n".into(),
         });
     }
-    // All but the counter is as the measured loops have it.
-    let mut state = State {
-        counter: u16::from_le_bytes([image[0xFFFC], image[0xFFFD]]),
-        ..loops::START
-    };
-    let mut core = Core::new(image.to_vec());
-    let mut opcodes = Vec::with_capacity(BOUND);
-    let mut listed = [0; known::ALL.len()];
+    let mut walk = Walk::new(image, loops::start_of(image));
     let reason = loop {
         if opcodes.len() == BOUND {
             break 0;
         }
-        let code = [0, 1, 2].map(|offset| {
-            let address = state.counter.wrapping_add(offset);
-            core.bytes()[usize::from(address)]
-        });
-        if rules::entry(code[0]).is_none() {
+        let Some(made) = walk.step()? else {
             break 3;
-        }
-        let mut case = Case::new(state);
-        case.put_code(&code);
-        let rust = core
-            .step(&state)
-            .ok_or_else(|| format!("the Rust made no step: {case}"))?;
-        state = known::demanded(&case, &rust)
-            .ok_or_else(|| format!("the Rust did not differ as is listed: {case}"))?;
-        if let Some(known) = known::cause(&case) {
+        };
+        if let Some(known) = made.known {
             listed[known as usize] += 1;
         }
-        opcodes.push(code[0]);
+        opcodes.push(made.opcode);
     };
     let line = format!(
         "{reason} {} {} {}\n",
         opcodes.len(),
-        state.cycles,
-        state.registers()
+        walk.state.cycles,
+        walk.state.registers()
     );
     Ok(Report {
         reason,

@@ -3,8 +3,8 @@
 use oracle::images::SIZE;
 use saxundeer::tapes::{self, Bad, Place};
 
+use crate::fault::{Fault, differs, same};
 use crate::srecord::{Format, PLAIN, Read, Srecord};
-use crate::{Fault, differs, same};
 
 struct Listed {
     what: &'static str,

@@ -80,6 +80,13 @@ pub const PLAIN: Spelling = Spelling {
     packed: false,
 };
 
+/// As a stretch is punched.
+pub const PUNCHED: Spelling = Spelling {
+    line_end: LineEnd::CrLf,
+    size: Some(24),
+    packed: true,
+};
+
 pub struct Srecord {
     folder: PathBuf,
 }

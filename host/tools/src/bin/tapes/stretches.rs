@@ -1,4 +1,4 @@
-//! The stretches of memory that srecord is asked to write, and how it is asked to.
+//! The stretches of memory that srecord is asked to write, and how it is asked to; and those that are punched.
 
 use std::ops::Range;
 
@@ -18,6 +18,17 @@ pub struct Order {
     /// In order, each apart from the next.
     pub stretches: Vec<Range<usize>>,
     pub spelling: Spelling,
+}
+
+impl Order {
+    /// A memory with the bytes of the stretches.
+    pub fn laid_over(&self, memory: &[u8]) -> Vec<u8> {
+        let mut memory = memory.to_vec();
+        for stretch in &self.stretches {
+            memory[stretch.clone()].copy_from_slice(&self.image[stretch.clone()]);
+        }
+        memory
+    }
 }
 
 pub const KINDS: [Kind; 7] = [
@@ -56,7 +67,7 @@ const SIZES: [usize; 10] = [1, 2, 23, 24, 25, 48, 255, 256, 257, 512];
 const RECORDS: [u8; 9] = [1, 2, 16, 23, 24, 25, 32, 254, 255];
 
 fn line_end(random: &mut Random) -> LineEnd {
-    [LineEnd::Lf, LineEnd::CrLf, LineEnd::Cr][random.below(3)]
+    random.one_of(&[LineEnd::Lf, LineEnd::CrLf, LineEnd::Cr])
 }
 
 /// Half of the tapes are as srecord writes them unasked.
@@ -67,7 +78,7 @@ fn spelling(random: &mut Random) -> Spelling {
     let size = match random.below(4) {
         0 => None,
         1 => Some(1 + random.below(255) as u8),
-        _ => Some(RECORDS[random.below(RECORDS.len())]),
+        _ => Some(random.one_of(&RECORDS)),
     };
     Spelling {
         line_end: line_end(random),
@@ -85,7 +96,7 @@ fn order(random: &mut Random, stretches: Vec<Range<usize>>) -> Order {
 }
 
 /// Short ones are as frequent as long ones.
-pub fn stretch(random: &mut Random) -> Range<usize> {
+fn stretch(random: &mut Random) -> Range<usize> {
     let first = usize::from(random.address());
     let most = 1 << random.below(17);
     first..SIZE.min(first + 1 + random.below(most))
@@ -121,7 +132,7 @@ fn many(random: &mut Random) -> Order {
 }
 
 fn ends(random: &mut Random) -> Order {
-    let mut size = || SIZES[random.below(SIZES.len())];
+    let mut size = || random.one_of(&SIZES);
     let (low, high) = (0..size(), SIZE - size()..SIZE);
     let stretches = match random.below(3) {
         0 => vec![low],
@@ -173,4 +184,20 @@ fn sums(random: &mut Random) -> Order {
 
 fn all(random: &mut Random) -> Order {
     order(random, vec![0..SIZE])
+}
+
+/// The stretches that every run punches, by their length: where they begin is random for the first five.
+const LENGTHS: [usize; 5] = [1, 23, 24, 25, 48];
+const PLACES: [Range<usize>; 4] = [0xFFE8..SIZE, 0..SIZE, 0..1, 0xFFFF..SIZE];
+
+/// The stretch of a number.
+pub fn to_punch(random: &mut Random, number: usize) -> Range<usize> {
+    if let Some(length) = LENGTHS.get(number) {
+        let first = random.below(SIZE + 1 - length);
+        return first..first + length;
+    }
+    match PLACES.get(number - LENGTHS.len()) {
+        Some(place) => place.clone(),
+        None => stretch(random),
+    }
 }

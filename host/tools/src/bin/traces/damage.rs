@@ -29,7 +29,7 @@ pub const DAMAGES: [Damage; 9] = [
                 let old = text[place];
                 if old.is_ascii_hexdigit() {
                     while text[place] == old {
-                        text[place] = DIGITS[random.below(DIGITS.len())];
+                        text[place] = random.one_of(DIGITS);
                     }
                     return text;
                 }
@@ -114,7 +114,7 @@ const CHARACTERS: &[u8] = b"0123456789ABCDEFabcdef \n\r+-";
 fn character(random: &mut Random) -> u8 {
     match random.below(4) {
         0 => random.any_byte(),
-        _ => CHARACTERS[random.below(CHARACTERS.len())],
+        _ => random.one_of(CHARACTERS),
     }
 }
 

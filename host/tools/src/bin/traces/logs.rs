@@ -1,13 +1,10 @@
 //! The logs that P10 of docs/RULES.md speaks of, by the Rust.
 
-use oracle::case::Case;
-use oracle::known::{self, Known};
-use oracle::recorder::{Access, Core};
-use oracle::rules;
-use oracle::state::State;
-
-/// From a higher count no step is made.
-const LAST_COUNT: u64 = u64::MAX - 7;
+use oracle::accesses::Access;
+use oracle::known::Known;
+use oracle::recorder::Core;
+use oracle::state::{HIGHEST_COUNT, State};
+use oracle::walk::Walk;
 
 /// The line of a state, with its LF.
 pub fn line_of(state: &State) -> String {
@@ -53,8 +50,7 @@ pub struct Log {
 }
 
 impl Log {
-    /// At most so many steps. Some of the bytes that are not among the 151 the Rust would execute, and it has no last count, so
-    /// that both are looked for before each step.
+    /// At most so many steps. The Rust has no last count, so that this is looked for before each step.
     pub fn of(image: &[u8], first: State, steps: usize) -> Result<Log, String> {
         let mut log = Log {
             text: String::new(),
@@ -64,41 +60,29 @@ impl Log {
             stores: Vec::new(),
         };
         log.put(&first);
-        let mut core = Core::new(image.to_vec());
-        let mut state = first;
+        let mut walk = Walk::new(image, first);
         let mut called = None;
-        while log.count() <= steps && state.cycles <= LAST_COUNT {
-            let code = [0, 1, 2].map(|offset| {
-                let address = state.counter.wrapping_add(offset);
-                core.bytes()[usize::from(address)]
-            });
-            if rules::entry(code[0]).is_none() {
+        while log.count() <= steps && walk.state.cycles <= HIGHEST_COUNT {
+            let Some(made) = walk.step()? else {
                 break;
-            }
-            let mut case = Case::new(state);
-            case.put_code(&code);
-            let rust = core
-                .step(&state)
-                .ok_or_else(|| format!("the Rust made no step: {case}"))?;
-            match known::cause(&case) {
+            };
+            match made.known {
                 Some(Known::ModifyOverAPage) if called.is_none() => log.converted += 1,
                 Some(Known::FirstPush | Known::SecondPush) if called.is_none() => {
                     called = Some(log.count());
                 }
                 _ => {}
             }
-            state = known::demanded(&case, &rust)
-                .ok_or_else(|| format!("the Rust did not differ as is listed: {case}"))?;
-            for access in core.accesses() {
+            for access in walk.core.accesses() {
                 if let Access::Store(address) = *access {
-                    let byte = core.bytes()[usize::from(address)];
+                    let byte = walk.core.bytes()[usize::from(address)];
                     log.stores.push((log.count(), address, byte));
                 }
             }
-            log.put(&state);
+            log.put(&walk.state);
         }
         log.by_the_rust = called.unwrap_or(log.count());
-        if log.memory_after(image, log.count()) != core.bytes() {
+        if log.memory_after(image, log.count()) != walk.core.bytes() {
             return Err("the Rust's memory is not what it stored".into());
         }
         Ok(log)

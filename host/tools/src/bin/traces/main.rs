@@ -210,12 +210,9 @@ struct Comparison {
 impl Comparison {
     /// The state of the first line: half of them that with which report starts.
     fn first(&mut self, image: &[u8]) -> State {
-        let counter = u16::from_le_bytes([image[0xFFFC], image[0xFFFD]]);
+        let start = loops::start_of(image);
         if self.random.below(2) == 0 {
-            return State {
-                counter,
-                ..loops::START
-            };
+            return start;
         }
         let cycles = match self.random.below(4) {
             0 => 0,
@@ -225,7 +222,7 @@ impl Comparison {
             _ => self.random.draw() >> self.random.below(64),
         };
         State {
-            counter,
+            counter: start.counter,
             cycles,
             ..self.random.state()
         }

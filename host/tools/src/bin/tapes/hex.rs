@@ -5,14 +5,30 @@ use std::ops::Range;
 use oracle::images::SIZE;
 use saxundeer::tapes::{self, Bad, Place};
 
-use crate::srecord::{Format, LineEnd, Read, Spelling};
+use crate::comparison::{Comparison, Plant};
+use crate::fault::{Fault, differs, same};
+use crate::srecord::{Format, LineEnd, PUNCHED, Read};
 use crate::stretches::Order;
-use crate::{Comparison, Fault, MOST, Plant, differs, same};
+use crate::written::{MOST, records};
+
+/// What the HEX of a kind came to: the number of texts, their data records and bytes; those that are read as they stand; those
+/// with too many records; those that srecord does not read itself; and those of other types, which are refused.
+pub const COLUMNS: [(&str, usize); 7] = [
+    ("texts", 6),
+    ("records", 9),
+    ("bytes", 9),
+    ("read", 9),
+    ("65536 records", 15),
+    ("unread by srecord", 19),
+    ("refused other types", 20),
+];
+
+type Counts = [usize; COLUMNS.len()];
 
 const END: &str = ":00000001FF";
 const CR_LF: &str = "\r\n";
 
-/// HEX as srecord spells it, which is looked at, not believed.
+/// HEX as srecord spells it.
 struct Written {
     text: Vec<u8>,
     line_end: LineEnd,
@@ -23,24 +39,9 @@ struct Written {
 }
 
 impl Written {
-    /// Each record has its line end, nothing else stands between them or behind the last, and the last alone has the type 01.
+    /// The last record alone has the type 01.
     fn of(text: Vec<u8>, line_end: LineEnd) -> Result<Written, Fault> {
-        let Ok(read) = std::str::from_utf8(&text) else {
-            return differs(&text, "srecord wrote another character");
-        };
-        let mut lines: Vec<&str> = read.split(line_end.text()).collect();
-        if lines.pop() != Some("") {
-            return differs(&text, "srecord left the last line open");
-        }
-        let is_record = |line: &&str| {
-            let digits = line.strip_prefix(':').unwrap_or("?");
-            digits
-                .bytes()
-                .all(|digit| matches!(digit, b'0'..=b'9' | b'A'..=b'F'))
-        };
-        if !lines.iter().all(is_record) {
-            return differs(&text, "srecord wrote a line that is no record");
-        }
+        let mut lines = records(&text, line_end, ':')?;
         let last = lines.pop();
         if last != Some(END) {
             return differs(&text, format!("srecord ended with {last:?}"));
@@ -94,57 +95,6 @@ impl Written {
     }
 }
 
-/// What the HEX of one kind came to.
-#[derive(Default)]
-pub struct Row {
-    texts: usize,
-    records: usize,
-    bytes: usize,
-    as_it_stands: usize,
-    too_many: usize,
-    unread: usize,
-    other_types: usize,
-}
-
-impl Row {
-    pub fn head() {
-        println!(
-            "{:22}{:>6}{:>9}{:>9}{:>9}{:>15}{:>19}{:>20}",
-            "srecord writes HEX",
-            "texts",
-            "records",
-            "bytes",
-            "read",
-            "65536 records",
-            "unread by srecord",
-            "refused other types"
-        );
-    }
-
-    pub fn print(&self, name: &str) {
-        println!(
-            "{name:22}{:6}{:9}{:9}{:9}{:15}{:19}{:20}",
-            self.texts,
-            self.records,
-            self.bytes,
-            self.as_it_stands,
-            self.too_many,
-            self.unread,
-            self.other_types
-        );
-    }
-
-    pub fn add(&mut self, other: &Row) {
-        self.texts += other.texts;
-        self.records += other.records;
-        self.bytes += other.bytes;
-        self.as_it_stands += other.as_it_stands;
-        self.too_many += other.too_many;
-        self.unread += other.unread;
-        self.other_types += other.other_types;
-    }
-}
-
 /// A text in the other format.
 fn moved(
     what: &str,
@@ -162,8 +112,8 @@ fn moved(
 }
 
 impl Comparison {
-    /// Has srecord write HEX, reads it, and moves it to a tape and back.
-    pub fn load_hex(&mut self, order: &Order, is_last: bool) -> Result<Row, Fault> {
+    /// Has srecord write HEX, reads it, and moves it to a tape and back. It gives the counts of the columns.
+    pub fn load_hex(&mut self, order: &Order, is_last: bool) -> Result<Counts, Fault> {
         let Order {
             image,
             stretches,
@@ -172,10 +122,7 @@ impl Comparison {
         let text = self.srecord.hex(image, stretches, *spelling, 2, None)?;
         let hex = Written::of(text, spelling.line_end)?;
         let before = self.hex_random.memory();
-        let mut expected = before.clone();
-        for stretch in stretches {
-            expected[stretch.clone()].copy_from_slice(&image[stretch.clone()]);
-        }
+        let mut expected = order.laid_over(&before);
         match (
             self.srecord.laid(Format::Hex, &hex.text, &before)?,
             hex.is_read_by_srecord(),
@@ -243,15 +190,15 @@ impl Comparison {
             return differs(&tape, "HEX moved there and back is another text");
         }
         self.refuse_other_types(order, &hex, &before)?;
-        Ok(Row {
-            texts: 1,
-            records: hex.records,
-            bytes: stretches.iter().map(Range::len).sum(),
-            as_it_stands: usize::from(hex.answer().is_ok()),
-            too_many: usize::from(hex.answer().is_err()),
-            unread: usize::from(!hex.is_read_by_srecord()),
-            other_types: 1,
-        })
+        Ok([
+            1,
+            hex.records,
+            stretches.iter().map(Range::len).sum(),
+            usize::from(hex.answer().is_ok()),
+            usize::from(hex.answer().is_err()),
+            usize::from(!hex.is_read_by_srecord()),
+            1,
+        ])
     }
 
     /// What srecord writes of the same image with other types, or with another end record, is refused there.
@@ -325,13 +272,8 @@ impl Comparison {
             }
             Read::Refused(why) => return differs(&hex, format!("srecord refuses it: {why}")),
         }
-        let packed = Spelling {
-            line_end: LineEnd::CrLf,
-            size: Some(24),
-            packed: true,
-        };
         let stretches = std::slice::from_ref(stretch);
-        if self.srecord.hex(memory, stretches, packed, 2, None)? != hex {
+        if self.srecord.hex(memory, stretches, PUNCHED, 2, None)? != hex {
             return differs(&hex, "srecord writes the stretch otherwise");
         }
         if moved("hex_to_tape", tapes::hex_to_tape, &hex)? != tape {

@@ -6,32 +6,26 @@ use oracle::random::Random;
 use oracle::rules;
 use oracle::state::{Names, RUST_AND_PORT, State, byte_difference};
 use saxundeer::{HIGHEST_BOUND, HIGHEST_CYCLES, Progress, RunAnswer, StepAnswer};
+use tools::states::given;
 
-use crate::pair::{Fault, Pair, Plant, given};
-use crate::parts::fault_at;
+use crate::counts::ByCycles;
+use crate::fault::{Fault, Plant};
+use crate::pair::Pair;
+use crate::part::Part;
 
 const STEPS_AND_RUN: Names = ["its steps", "the run"];
 const SMALL: [u64; 6] = [0, 1, 2, 7, 100, HIGHEST_BOUND + 1];
 const LARGE: [u64; 2] = [65_535, HIGHEST_BOUND];
 
-/// What the runs came to.
-#[derive(Default)]
-pub struct Spent {
-    /// By answer: 0, 2, 3, 4.
-    pub answers: [u64; 4],
-    /// Those with answer 0 by how many cycles more than the limit they spent.
-    pub over: [u64; 7],
-}
-
 /// With every combination of the levels and the last one of NMI, and random states besides: the small limits and a random one,
 /// `rounds` times, where about one byte in 40 is no opcode, and then the large ones on opcodes alone. Every second count of a small one
 /// lies about the last that has room for a step.
-pub fn runs_by_cycles(
-    pair: &mut Pair,
-    random: &mut Random,
-    rounds: u64,
-    progress: &mut impl FnMut(u64),
-) -> Result<(), Fault> {
+pub fn runs_by_cycles(part: Part, rounds: u64) -> Result<(), Fault> {
+    let Part {
+        pair,
+        random,
+        progress,
+    } = part;
     for lines in Lines::all() {
         let mut memory = laid(pair, random, Some(16));
         for _ in 0..rounds {
@@ -56,15 +50,15 @@ pub fn runs_by_cycles(
 
 /// Random opcodes, and of the bytes that are none one in so many or none: in both cores, and on a memory for the runs.
 fn laid(pair: &mut Pair, random: &mut Random, one_in: Option<usize>) -> Vec<u8> {
-    let opcodes: Vec<u8> = rules::all().map(|entry| entry.opcode).collect();
+    let opcodes = rules::opcodes();
     let mut memory = random.memory();
-    for (address, byte) in (0..=0xFFFF).zip(&mut memory) {
+    for byte in &mut memory {
         let stays = one_in.is_some_and(|number| random.below(number) == 0);
         if rules::entry(*byte).is_none() && !stays {
-            *byte = opcodes[random.below(opcodes.len())];
+            *byte = random.one_of(&opcodes);
         }
-        pair.put(address, *byte);
     }
+    pair.lay(&memory);
     memory
 }
 
@@ -81,13 +75,13 @@ fn run_by_cycles(
     let expected = by_steps(pair, start, lines, limit)?;
     if answer != expected {
         let what = format!("{limit} cycles: {expected:?} by steps, the port answered {answer:?}");
-        return Err(fault_at(start, what));
+        return Err(Fault::of_run(start, what));
     }
     pair.compare_all_bytes(RUST_AND_PORT)?;
     if let Some(what) = byte_difference(STEPS_AND_RUN, pair.rust.bytes(), memory) {
-        return Err(fault_at(start, format!("{limit} cycles: {what}")));
+        return Err(Fault::of_run(start, format!("{limit} cycles: {what}")));
     }
-    let Spent { answers, over } = &mut pair.calls.by_cycles;
+    let ByCycles { answers, over } = &mut pair.calls.by_cycles;
     match answer {
         RunAnswer::Made(progress) => {
             answers[0] += 1;
