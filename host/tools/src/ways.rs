@@ -2,7 +2,8 @@
 
 use oracle::loops;
 use oracle::state::State;
-use saxundeer::{HIGHEST_BOUND, Lines, StepAnswer};
+use saxundeer::watch::{Watched, watched_run};
+use saxundeer::{HIGHEST_BOUND, Lines, Machine, Progress, RunAnswer, StepAnswer};
 
 use crate::states::{machine_of, state_of};
 
@@ -12,35 +13,6 @@ unsafe extern "C" {
         cycles: *mut u64,
         lines: u8,
         first: *mut u16,
-        memory: *mut u8,
-        length: usize,
-    ) -> u8;
-    fn mos6502_run(
-        registers: *mut u64,
-        cycles: *mut u64,
-        steps: *mut u64,
-        bound: u64,
-        lines: u8,
-        memory: *mut u8,
-        length: usize,
-    ) -> u8;
-    fn mos6502_run_cycles(
-        registers: *mut u64,
-        cycles: *mut u64,
-        steps: *mut u64,
-        limit: u64,
-        lines: u8,
-        memory: *mut u8,
-        length: usize,
-    ) -> u8;
-    fn mos6502_watched_run(
-        registers: *mut u64,
-        cycles: *mut u64,
-        steps: *mut u64,
-        place: *mut u16,
-        bound: u64,
-        lines: u8,
-        pages: *const [u8; 256],
         memory: *mut u8,
         length: usize,
     ) -> u8;
@@ -64,22 +36,54 @@ pub const ALL: [(&str, Way); 5] = [
 /// A page that no loop reads: the watched run has it sealed.
 const SEALED_PAGE: usize = 0xF0;
 
-/// The state after the numbers that the C functions take.
-fn state_of_numbers(registers: u64, cycles: u64) -> State {
-    let [accumulator, x, y, stack, status, low, high, _] = registers.to_le_bytes();
-    State {
-        counter: u16::from_le_bytes([low, high]),
-        accumulator,
-        x,
-        y,
-        stack,
-        status,
-        cycles,
+/// By calls that are told how many steps are left, until all are made.
+fn in_parts(
+    steps: u64,
+    mut part: impl FnMut(Machine, u64) -> Result<Progress, String>,
+) -> Result<State, String> {
+    let mut all = Progress {
+        steps: 0,
+        machine: machine_of(&loops::START),
+    };
+    while all.steps < steps {
+        let made = all.steps;
+        let progress = part(all.machine, steps - made)
+            .map_err(|fault| format!("{fault} after {made} steps"))?;
+        all = Progress {
+            steps: made + progress.steps,
+            ..progress
+        };
+    }
+    Ok(state_of(&all.machine))
+}
+
+/// How far a run came that made all that was asked for.
+fn whole(answer: RunAnswer) -> Result<Progress, String> {
+    match answer {
+        RunAnswer::Made(progress) => Ok(progress),
+        other => Err(format!("a run answered {other:?}")),
     }
 }
 
-/// The number of the registers at which the loops start.
-fn start() -> u64 {
+/// By `mos6502_run`, a million steps a call.
+pub fn by_run(memory: &mut [u8], steps: u64) -> Result<State, String> {
+    in_parts(steps, |machine, left| {
+        let bound = HIGHEST_BOUND.min(left);
+        whole(saxundeer::run(machine, bound, Lines::IDLE, memory))
+    })
+}
+
+/// By `mos6502_run_cycles`, a million cycles a call. So many steps are to be made and no more, and a call makes at most half of
+/// its limit and 1: so the last calls have smaller limits, some twenty of them.
+fn by_cycles(memory: &mut [u8], steps: u64) -> Result<State, String> {
+    in_parts(steps, |machine, left| {
+        let limit = HIGHEST_BOUND.min(2 * left - 1);
+        whole(saxundeer::run_cycles(machine, limit, Lines::IDLE, memory))
+    })
+}
+
+/// By `mos6502_step`, one call a step, the registers kept as a number.
+fn by_step(memory: &mut [u8], steps: u64) -> Result<State, String> {
     let State {
         counter,
         accumulator,
@@ -87,72 +91,13 @@ fn start() -> u64 {
         y,
         stack,
         status,
-        ..
+        mut cycles,
     } = loops::START;
     let [low, high] = counter.to_le_bytes();
-    u64::from_le_bytes([accumulator, x, y, stack, status, low, high, 0])
-}
-
-/// By `mos6502_run`, a million steps a call.
-pub fn by_run(memory: &mut [u8], steps: u64) -> Result<State, String> {
-    let (mut registers, mut cycles, mut made) = (start(), loops::START.cycles, 0);
-    while made < steps {
-        let bound = HIGHEST_BOUND.min(steps - made);
-        let mut part = 0;
-        // Sound: the numbers are this function's own, and the memory is lent to it.
-        let answer = unsafe {
-            mos6502_run(
-                &mut registers,
-                &mut cycles,
-                &mut part,
-                bound,
-                IDLE,
-                memory.as_mut_ptr(),
-                memory.len(),
-            )
-        };
-        if answer != 0 {
-            return Err(format!("mos6502_run answered {answer} after {made} steps"));
-        }
-        made += part;
-    }
-    Ok(state_of_numbers(registers, cycles))
-}
-
-/// By `mos6502_run_cycles`, a million cycles a call. So many steps are to be made and no more, and a call makes at most half of
-/// its limit and 1: so the last calls have smaller limits, some twenty of them.
-pub fn by_cycles(memory: &mut [u8], steps: u64) -> Result<State, String> {
-    let (mut registers, mut cycles, mut made) = (start(), loops::START.cycles, 0);
-    while made < steps {
-        let limit = HIGHEST_BOUND.min(2 * (steps - made) - 1);
-        let mut part = 0;
-        // Sound: as above.
-        let answer = unsafe {
-            mos6502_run_cycles(
-                &mut registers,
-                &mut cycles,
-                &mut part,
-                limit,
-                IDLE,
-                memory.as_mut_ptr(),
-                memory.len(),
-            )
-        };
-        if answer != 0 {
-            return Err(format!(
-                "mos6502_run_cycles answered {answer} after {made} steps"
-            ));
-        }
-        made += part;
-    }
-    Ok(state_of_numbers(registers, cycles))
-}
-
-/// By `mos6502_step`, one call a step, the registers kept as a number.
-pub fn by_step(memory: &mut [u8], steps: u64) -> Result<State, String> {
-    let (mut registers, mut cycles, mut first) = (start(), loops::START.cycles, 0);
+    let mut registers = u64::from_le_bytes([accumulator, x, y, stack, status, low, high, 0]);
+    let mut first = 0;
     for made in 0..steps {
-        // Sound: as above.
+        // Sound: the numbers are this function's own, and the memory is lent to it.
         let answer = unsafe {
             mos6502_step(
                 &mut registers,
@@ -167,11 +112,20 @@ pub fn by_step(memory: &mut [u8], steps: u64) -> Result<State, String> {
             return Err(format!("mos6502_step answered {answer} after {made} steps"));
         }
     }
-    Ok(state_of_numbers(registers, cycles))
+    let [accumulator, x, y, stack, status, low, high, _] = registers.to_le_bytes();
+    Ok(State {
+        counter: u16::from_le_bytes([low, high]),
+        accumulator,
+        x,
+        y,
+        stack,
+        status,
+        cycles,
+    })
 }
 
 /// By the Rust crate's step, the machine by value.
-pub fn by_crate(memory: &mut [u8], steps: u64) -> Result<State, String> {
+fn by_crate(memory: &mut [u8], steps: u64) -> Result<State, String> {
     let mut machine = machine_of(&loops::START);
     for made in 0..steps {
         match saxundeer::single_step(machine, Lines::IDLE, memory) {
@@ -183,33 +137,14 @@ pub fn by_crate(memory: &mut [u8], steps: u64) -> Result<State, String> {
 }
 
 /// By `mos6502_watched_run`, a million steps a call.
-pub fn by_watched_run(memory: &mut [u8], steps: u64) -> Result<State, String> {
-    let (mut registers, mut cycles, mut made) = (start(), loops::START.cycles, 0);
+fn by_watched_run(memory: &mut [u8], steps: u64) -> Result<State, String> {
     let mut pages = [0; 256];
     pages[SEALED_PAGE] = 1;
-    while made < steps {
-        let bound = HIGHEST_BOUND.min(steps - made);
-        let (mut part, mut place) = (0, 0);
-        // Sound: as above, and the map is this function's own.
-        let answer = unsafe {
-            mos6502_watched_run(
-                &mut registers,
-                &mut cycles,
-                &mut part,
-                &mut place,
-                bound,
-                IDLE,
-                &pages,
-                memory.as_mut_ptr(),
-                memory.len(),
-            )
-        };
-        if answer != 0 {
-            return Err(format!(
-                "mos6502_watched_run answered {answer} after {made} steps"
-            ));
+    in_parts(steps, |machine, left| {
+        let bound = HIGHEST_BOUND.min(left);
+        match watched_run(machine, bound, Lines::IDLE, &pages, memory) {
+            Watched::Ran(answer) => whole(answer),
+            halted @ Watched::Halted { .. } => Err(format!("a watched run answered {halted:?}")),
         }
-        made += part;
-    }
-    Ok(state_of_numbers(registers, cycles))
+    })
 }

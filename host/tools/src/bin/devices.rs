@@ -16,7 +16,7 @@ use oracle::rules;
 use oracle::state::{RUST_AND_PORT, State, difference};
 use saxundeer::devices::{Device, step_with};
 use saxundeer::{Lines, StepAnswer};
-use tools::options::Options;
+use tools::options::{Command, Options};
 use tools::states::{machine_of, state_of};
 
 const USAGE: &str = "usage: host/devices [--seed N] [--steps N] [--plant] [ARCHIVE]";
@@ -198,15 +198,8 @@ fn compare(options: &Options) -> Result<Counts, String> {
     Ok(counts)
 }
 
-fn main() -> ExitCode {
-    let options = match Options::of_arguments(&["--seed", "--steps"], &["--plant"]) {
-        Ok(options) => options,
-        Err(fault) => {
-            eprintln!("devices: {fault}\n{USAGE}");
-            return ExitCode::from(2);
-        }
-    };
-    match compare(&options) {
+fn run(options: &Options) -> ExitCode {
+    match compare(options) {
         Ok(counts) => {
             println!(
                 "{} rounds, {} steps: {} bytes asked and {} told, all alike",
@@ -223,4 +216,8 @@ fn main() -> ExitCode {
             ExitCode::FAILURE
         }
     }
+}
+
+fn main() -> ExitCode {
+    Command::new("devices", USAGE, &["--seed", "--steps"], &["--plant"]).run(run)
 }

@@ -14,7 +14,7 @@ use oracle::recorder::Core;
 use oracle::rules::{self, Entry};
 use oracle::state::{HIGHEST_COUNT, State};
 use oracle::sums;
-use tools::options::Options;
+use tools::options::{Command, Options};
 
 const USAGE: &str = "usage: host/vectors [--seed N] [--count N]";
 /// The edges, and the sums as one class more.
@@ -263,15 +263,8 @@ fn write(options: &Options) -> Result<String, String> {
     Ok(text)
 }
 
-fn main() -> ExitCode {
-    let options = match Options::of_arguments(&["--seed", "--count"], &[]) {
-        Ok(options) => options,
-        Err(fault) => {
-            eprintln!("vectors: {fault}\n{USAGE}");
-            return ExitCode::from(2);
-        }
-    };
-    match write(&options) {
+fn vectors(options: &Options) -> ExitCode {
+    match write(options) {
         Ok(text) => {
             print!("{text}");
             eprintln!("vectors: {} steps", text.lines().count());
@@ -282,4 +275,8 @@ fn main() -> ExitCode {
             ExitCode::FAILURE
         }
     }
+}
+
+fn main() -> ExitCode {
+    Command::new("vectors", USAGE, &["--seed", "--count"], &[]).run(vectors)
 }

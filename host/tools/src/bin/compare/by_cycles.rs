@@ -2,7 +2,6 @@
 //! more by one call of the port.
 
 use oracle::interrupts::Lines;
-use oracle::random::Random;
 use oracle::rules;
 use oracle::state::{Names, RUST_AND_PORT, State, byte_difference};
 use saxundeer::{HIGHEST_BOUND, HIGHEST_CYCLES, Progress, RunAnswer, StepAnswer};
@@ -20,36 +19,32 @@ const LARGE: [u64; 2] = [65_535, HIGHEST_BOUND];
 /// With every combination of the levels and the last one of NMI, and random states besides: the small limits and a random one,
 /// `rounds` times, where about one byte in 40 is no opcode, and then the large ones on opcodes alone. Every second count of a small one
 /// lies about the last that has room for a step.
-pub fn runs_by_cycles(part: Part, rounds: u64) -> Result<(), Fault> {
-    let Part {
-        pair,
-        random,
-        progress,
-    } = part;
+pub fn runs_by_cycles(part: &mut Part, rounds: u64) -> Result<(), Fault> {
     for lines in Lines::all() {
-        let mut memory = laid(pair, random, Some(16));
+        let mut memory = laid(part, Some(16));
         for _ in 0..rounds {
-            let any = random.below(1_000) as u64;
+            let any = part.random.below(1_000) as u64;
             for limit in SMALL.into_iter().chain([any]) {
-                let mut start = random.state();
-                start.cycles = match random.below(2) {
-                    0 => HIGHEST_CYCLES - 8 + random.below(16) as u64,
-                    _ => random.draw() % (HIGHEST_CYCLES / 2),
+                let mut start = part.random.state();
+                start.cycles = match part.random.below(2) {
+                    0 => HIGHEST_CYCLES - 8 + part.random.below(16) as u64,
+                    _ => part.random.draw() % (HIGHEST_CYCLES / 2),
                 };
-                run_by_cycles(pair, &mut memory, start, lines, limit)?;
+                run_by_cycles(part.pair, &mut memory, start, lines, limit)?;
             }
         }
-        let mut memory = laid(pair, random, None);
+        let mut memory = laid(part, None);
         for limit in LARGE {
-            run_by_cycles(pair, &mut memory, random.state(), lines, limit)?;
-            progress(pair.steps);
+            run_by_cycles(part.pair, &mut memory, part.random.state(), lines, limit)?;
+            part.tell();
         }
     }
     Ok(())
 }
 
 /// Random opcodes, and of the bytes that are none one in so many or none: in both cores, and on a memory for the runs.
-fn laid(pair: &mut Pair, random: &mut Random, one_in: Option<usize>) -> Vec<u8> {
+fn laid(part: &mut Part, one_in: Option<usize>) -> Vec<u8> {
+    let random = &mut *part.random;
     let opcodes = rules::opcodes();
     let mut memory = random.memory();
     for byte in &mut memory {
@@ -58,7 +53,7 @@ fn laid(pair: &mut Pair, random: &mut Random, one_in: Option<usize>) -> Vec<u8> 
             *byte = random.one_of(&opcodes);
         }
     }
-    pair.lay(&memory);
+    part.pair.lay(&memory);
     memory
 }
 

@@ -16,67 +16,53 @@ use crate::pair::Pair;
 use crate::part::{LONGEST, Part, RUNS, Run, random_cycles};
 
 /// So many of each opcode.
-pub fn random_states(part: Part, steps: u64) -> Result<(), Fault> {
-    let Part {
-        pair,
-        random,
-        progress,
-    } = part;
+pub fn random_states(part: &mut Part, steps: u64) -> Result<(), Fault> {
     for entry in rules::all() {
         for _ in 0..steps {
-            let mut case = Case::random(entry, random);
-            case.state.cycles = random_cycles(random);
-            pair.step_case(&case)?;
+            let mut case = Case::random(entry, part.random);
+            case.state.cycles = random_cycles(part.random);
+            part.pair.step_case(&case)?;
         }
-        progress(pair.steps);
+        part.tell();
     }
-    pair.compare_all_bytes(RUST_AND_PORT)
+    part.pair.compare_all_bytes(RUST_AND_PORT)
 }
 
 /// One class of them. The cycles have a generator of their own, since the class holds the other one.
-pub fn directed_edges(part: Part, class: Class, counts: &mut Random) -> Result<(), Fault> {
-    let Part {
-        pair,
-        random,
-        progress,
-    } = part;
-    class.each(random, &mut |mut case| {
+pub fn directed_edges(part: &mut Part, class: Class, counts: &mut Random) -> Result<(), Fault> {
+    class.each(part.random, &mut |mut case| {
         case.state.cycles = random_cycles(counts);
-        pair.step_case(&case)?;
-        if pair.steps.is_multiple_of(65_536) {
-            progress(pair.steps);
+        part.pair.step_case(&case)?;
+        if part.pair.steps.is_multiple_of(65_536) {
+            (part.progress)(part.pair.steps);
         }
         Ok(())
     })?;
-    pair.compare_all_bytes(RUST_AND_PORT)
+    part.pair.compare_all_bytes(RUST_AND_PORT)
 }
 
-pub fn all_sums(part: Part) -> Result<(), Fault> {
-    let Part { pair, random, .. } = part;
-    sums::each(random, &mut |case| pair.step_case(&case).map(|_| ()))?;
-    pair.compare_all_bytes(RUST_AND_PORT)
+pub fn all_sums(part: &mut Part) -> Result<(), Fault> {
+    let step = &mut |case| part.pair.step_case(&case).map(|_| ());
+    sums::each(part.random, step)?;
+    part.pair.compare_all_bytes(RUST_AND_PORT)
 }
 
 /// Runs with the state carried: three tenths of the steps on the programs whose rate is measured, the rest on random
 /// memories. There a byte that is no opcode must be refused and is then replaced by one, so that the run goes on.
-pub fn long_runs(part: Part, steps: u64) -> Result<(), Fault> {
-    let Part {
-        pair,
-        random,
-        progress,
-    } = part;
+pub fn long_runs(part: &mut Part, steps: u64) -> Result<(), Fault> {
     let opcodes = rules::opcodes();
-    let end = pair.steps + steps;
+    let end = part.pair.steps + steps;
     for program in loops::all() {
-        let last = pair.steps + HIGHEST_BOUND.min(steps / 10);
-        long_run(pair, program.image, loops::START, last, || 0)?;
-        progress(pair.steps);
+        let last = part.pair.steps + HIGHEST_BOUND.min(steps / 10);
+        long_run(part.pair, program.image, loops::START, last, || 0)?;
+        part.tell();
     }
-    while pair.steps < end {
-        let last = end.min(pair.steps + LONGEST);
-        let (memory, start) = (random.memory(), random.state());
-        long_run(pair, memory, start, last, || random.one_of(&opcodes))?;
-        progress(pair.steps);
+    while part.pair.steps < end {
+        let last = end.min(part.pair.steps + LONGEST);
+        let (memory, start) = (part.random.memory(), part.random.state());
+        let opcode = || part.random.one_of(&opcodes);
+        long_run(part.pair, memory, start, last, opcode)?;
+        part.tell();
     }
     Ok(())
 }

@@ -18,7 +18,7 @@ use oracle::edges;
 use oracle::known;
 use oracle::random::Random;
 use oracle::rules;
-use tools::options::Options;
+use tools::options::{Command, Options};
 
 use counts::{ByCycles, Calls, Firsts};
 use fault::{Fault, PLANTS, Plant};
@@ -77,10 +77,10 @@ impl Comparison {
     fn part(
         &mut self,
         name: &str,
-        compare: impl FnOnce(Part) -> Result<(), Fault>,
+        compare: impl FnOnce(&mut Part) -> Result<(), Fault>,
     ) -> Result<(), Fault> {
         let before = self.row(name, None);
-        compare(Part {
+        compare(&mut Part {
             pair: &mut self.pair,
             random: &mut self.random,
             progress: &mut |steps| tell_now_and_then(name.trim(), steps, &mut self.told),
@@ -118,11 +118,11 @@ impl Comparison {
     fn part_with_lines(
         &mut self,
         name: &'static str,
-        compare: impl FnOnce(Part) -> Result<(), Fault>,
+        compare: impl FnOnce(&mut Part) -> Result<(), Fault>,
     ) -> Result<(), Fault> {
         let before = self.counts_with_lines();
         let part = format!("with lines, {name}");
-        compare(Part {
+        compare(&mut Part {
             pair: &mut self.lines,
             random: &mut self.random,
             progress: &mut |steps| tell_now_and_then(&part, steps, &mut self.told),
@@ -234,23 +234,11 @@ impl Comparison {
     }
 }
 
-fn main() -> ExitCode {
-    let options = match Options::of_arguments(&["--seed", "--steps"], &PLANTS.map(|(mark, _)| mark))
-    {
-        Ok(options) => options,
-        Err(fault) => {
-            eprintln!("compare: {fault}\n{USAGE}");
-            return ExitCode::from(2);
-        }
-    };
+fn compare(options: &Options) -> ExitCode {
     let seed = options.number("--seed", 6502);
     let steps = options.number("--steps", 20_000_000);
-    let planted = PLANTS.into_iter().find(|(mark, _)| options.has(mark));
-    let plant = planted.map_or(Plant::None, |(_, plant)| plant);
-    println!(
-        "seed {seed}, steps {steps}{}",
-        planted.map_or("", |_| ", with a planted fault")
-    );
+    let plant = options.plant(&PLANTS).unwrap_or(Plant::None);
+    println!("seed {seed}, steps {steps}{}", options.remark());
     let mut random = Random::new(seed);
     let memory = random.memory();
     let mut comparison = Comparison {
@@ -284,4 +272,9 @@ fn main() -> ExitCode {
             ExitCode::FAILURE
         }
     }
+}
+
+fn main() -> ExitCode {
+    let marks = PLANTS.map(|(mark, _)| mark);
+    Command::new("compare", USAGE, &["--seed", "--steps"], &marks).run(compare)
 }

@@ -12,6 +12,12 @@ pub struct Part<'a> {
     pub progress: &'a mut dyn FnMut(u64),
 }
 
+impl Part<'_> {
+    pub fn tell(&mut self) {
+        (self.progress)(self.pair.steps);
+    }
+}
+
 /// The port's runs, which must give what its steps give.
 pub type Run = fn(Machine, u64, Lines, &mut [u8]) -> RunAnswer;
 

@@ -14,12 +14,8 @@ use crate::part::{LONGEST, Part, RUNS, random_cycles};
 
 /// The same call in both cores, with every opcode and every byte that is none, every combination of the levels, the last one
 /// of NMI and I, and random states besides. One count of cycles in sixteen has no room for a step.
-pub fn same_calls(part: Part, times: u64) -> Result<(), Fault> {
-    let Part {
-        pair,
-        random,
-        progress,
-    } = part;
+pub fn same_calls(part: &mut Part, times: u64) -> Result<(), Fault> {
+    let random = &mut *part.random;
     for byte in 0..=0xFF {
         for lines in Lines::all() {
             for mask in [0, State::MASK] {
@@ -33,30 +29,25 @@ pub fn same_calls(part: Part, times: u64) -> Result<(), Fault> {
                     };
                     case.put_code(&[byte]);
                     case.fill(random);
-                    pair.same_call(&case)?;
+                    part.pair.same_call(&case)?;
                 }
             }
         }
-        progress(pair.steps);
+        (part.progress)(part.pair.steps);
     }
-    pair.compare_all_bytes(RUST_AND_PORT)
+    part.pair.compare_all_bytes(RUST_AND_PORT)
 }
 
 /// Runs on random memories with the state carried and lines that change now and then. The Rust looks at its lines after an
 /// instruction, and the port sees the same levels at its next step. Every stretch of the port's steps with the same levels is
 /// also made by one run, long run or run by cycles of it.
-pub fn runs_with_lines(part: Part, steps: u64) -> Result<(), Fault> {
-    let Part {
-        pair,
-        random,
-        progress,
-    } = part;
+pub fn runs_with_lines(part: &mut Part, steps: u64) -> Result<(), Fault> {
     let opcodes = rules::opcodes();
-    let end = pair.steps + steps;
-    while pair.steps < end {
-        let last = end.min(pair.steps + LONGEST);
-        run_with_lines(pair, random, &opcodes, last)?;
-        progress(pair.steps);
+    let end = part.pair.steps + steps;
+    while part.pair.steps < end {
+        let last = end.min(part.pair.steps + LONGEST);
+        run_with_lines(part.pair, part.random, &opcodes, last)?;
+        part.tell();
     }
     Ok(())
 }

@@ -11,7 +11,7 @@ use oracle::loops::{self, Loop};
 use oracle::state::{RUST_AND_PORT, byte_difference, difference};
 use oracle::timed::{Run, time_rust};
 use saxundeer::{Lines, RunAnswer};
-use tools::options::Options;
+use tools::options::{Command, Options};
 use tools::states::{machine_of, state_of};
 use tools::ways::{self, Way};
 
@@ -155,14 +155,7 @@ fn growth() -> Result<(), String> {
     Ok(())
 }
 
-fn main() -> ExitCode {
-    let options = match Options::of_arguments(&[], &["--growth"]) {
-        Ok(options) => options,
-        Err(fault) => {
-            eprintln!("rate: {fault}\n{USAGE}");
-            return ExitCode::from(2);
-        }
-    };
+fn rate(options: &Options) -> ExitCode {
     let measured = if options.has("--growth") {
         growth()
     } else {
@@ -175,4 +168,8 @@ fn main() -> ExitCode {
             ExitCode::FAILURE
         }
     }
+}
+
+fn main() -> ExitCode {
+    Command::new("rate", USAGE, &[], &["--growth"]).run(rate)
 }

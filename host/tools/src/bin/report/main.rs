@@ -13,7 +13,7 @@ use oracle::images::{self, KINDS};
 use oracle::known;
 use oracle::random::Random;
 use oracle::rules;
-use tools::options::Options;
+use tools::options::{Command, Options};
 
 use lines::Report;
 
@@ -297,23 +297,12 @@ fn compare(comparison: &mut Comparison, images: usize, plant: bool) -> Result<()
     result
 }
 
-fn main() -> ExitCode {
-    let options = match Options::of_arguments(&["--seed", "--images"], &["--plant"]) {
-        Ok(options) => options,
-        Err(fault) => {
-            eprintln!("report: {fault}\n{USAGE}");
-            return ExitCode::from(2);
-        }
-    };
+fn report(options: &Options) -> ExitCode {
     let seed = options.number("--seed", 6502);
     let images = options.number("--images", 2_400);
-    let plant = options.has("--plant");
-    println!(
-        "seed {seed}, images {images}{}",
-        if plant { ", with a planted fault" } else { "" }
-    );
+    println!("seed {seed}, images {images}{}", options.remark());
     let mut comparison = Comparison::new(seed);
-    match compare(&mut comparison, images as usize, plant) {
+    match compare(&mut comparison, images as usize, options.has("--plant")) {
         Ok(()) => {
             comparison.summary();
             ExitCode::SUCCESS
@@ -327,4 +316,8 @@ fn main() -> ExitCode {
             ExitCode::from(status)
         }
     }
+}
+
+fn main() -> ExitCode {
+    Command::new("report", USAGE, &["--seed", "--images"], &["--plant"]).run(report)
 }

@@ -16,7 +16,7 @@ use std::path::Path;
 use std::process::ExitCode;
 
 use oracle::random::Random;
-use tools::options::Options;
+use tools::options::{Command, Options};
 
 use comparison::{Comparison, PLANTS, Plant};
 use fault::Fault;
@@ -71,19 +71,13 @@ fn compare(comparison: &mut Comparison, images: usize, stretches: usize) -> Resu
     Ok(())
 }
 
-fn run(options: &Options) -> Result<(), Fault> {
+fn compare_all(options: &Options) -> Result<(), Fault> {
     let seed = options.number("--seed", 6502);
     let images = options.number("--images", 420) as usize;
     let stretches = options.number("--stretches", 300) as usize;
-    let plant = PLANTS.iter().find(|(mark, _)| options.has(mark));
-    let plant = plant.map_or(Plant::None, |(_, plant)| *plant);
     println!(
         "seed {seed}, images {images}, stretches {stretches}{}",
-        if plant == Plant::None {
-            ""
-        } else {
-            ", with a planted fault"
-        }
+        options.remark()
     );
     // An earlier run may have kept one, which says nothing of this run.
     let _ = fs::remove_file(KEPT);
@@ -92,7 +86,7 @@ fn run(options: &Options) -> Result<(), Fault> {
         random: Random::new(seed),
         hex_random: Random::new(seed + 1),
         srecord: Srecord::new(folder)?,
-        plant,
+        plant: options.plant(&PLANTS).unwrap_or(Plant::None),
     };
     let result = compare(&mut comparison, images, stretches);
     let removed = fs::remove_dir_all(folder);
@@ -100,16 +94,8 @@ fn run(options: &Options) -> Result<(), Fault> {
     removed.map_err(|fault| Fault::Failed(format!("{FOLDER}: {fault}")))
 }
 
-fn main() -> ExitCode {
-    let marks = PLANTS.map(|(mark, _)| mark);
-    let options = match Options::of_arguments(&["--seed", "--images", "--stretches"], &marks) {
-        Ok(options) => options,
-        Err(fault) => {
-            eprintln!("tapes: {fault}\n{USAGE}");
-            return ExitCode::from(2);
-        }
-    };
-    match run(&options) {
+fn tapes(options: &Options) -> ExitCode {
+    match compare_all(options) {
         Ok(()) => ExitCode::SUCCESS,
         Err(Fault::Differs(what, tape)) => {
             match fs::write(KEPT, tape) {
@@ -123,4 +109,15 @@ fn main() -> ExitCode {
             ExitCode::from(2)
         }
     }
+}
+
+fn main() -> ExitCode {
+    let marks = PLANTS.map(|(mark, _)| mark);
+    Command::new(
+        "tapes",
+        USAGE,
+        &["--seed", "--images", "--stretches"],
+        &marks,
+    )
+    .run(tapes)
 }

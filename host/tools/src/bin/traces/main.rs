@@ -13,7 +13,7 @@ use oracle::loops;
 use oracle::random::Random;
 use oracle::state::{self, State};
 use saxundeer::traces::{self, Bad};
-use tools::options::Options;
+use tools::options::{Command, Options};
 
 use damage::DAMAGES;
 use logs::Log;
@@ -197,6 +197,13 @@ enum Plant {
     /// A byte of the copy is another one.
     Copy,
 }
+
+/// The marks that ask for them.
+const PLANTS: [(&str, Plant); 3] = [
+    ("--plant", Plant::Log),
+    ("--plant-line", Plant::Line),
+    ("--plant-copy", Plant::Copy),
+];
 
 struct Comparison {
     plant: Plant,
@@ -395,37 +402,18 @@ impl Comparison {
     }
 }
 
-fn main() -> ExitCode {
-    let plants = [
-        ("--plant", Plant::Log),
-        ("--plant-line", Plant::Line),
-        ("--plant-copy", Plant::Copy),
-    ];
-    let numbers = ["--seed", "--images", "--steps"];
-    let options = match Options::of_arguments(&numbers, &plants.map(|(mark, _)| mark)) {
-        Ok(options) => options,
-        Err(fault) => {
-            eprintln!("traces: {fault}\n{USAGE}");
-            return ExitCode::from(2);
-        }
-    };
+fn traces(options: &Options) -> ExitCode {
     let seed = options.number("--seed", 6502);
     let images = options.number("--images", 2_400) as usize;
     let steps = options.number("--steps", 250_000) as usize;
-    let plant = plants.iter().find(|(mark, _)| options.has(mark));
-    let plant = plant.map_or(Plant::None, |(_, plant)| *plant);
     println!(
         "seed {seed}, images {images}, steps {steps}{}",
-        if plant == Plant::None {
-            ""
-        } else {
-            ", with a planted fault"
-        }
+        options.remark()
     );
     // An earlier run may have kept some, which say nothing of this run.
     let _ = KEPT.map(fs::remove_file);
     let mut comparison = Comparison {
-        plant,
+        plant: options.plant(&PLANTS).unwrap_or(Plant::None),
         random: Random::new(seed.wrapping_add(1)),
         damaged: Default::default(),
         refused: 0,
@@ -442,4 +430,9 @@ fn main() -> ExitCode {
             ExitCode::FAILURE
         }
     }
+}
+
+fn main() -> ExitCode {
+    let marks = PLANTS.map(|(mark, _)| mark);
+    Command::new("traces", USAGE, &["--seed", "--images", "--steps"], &marks).run(traces)
 }
