@@ -41,8 +41,11 @@
 
 use core::ops::RangeInclusive;
 
+use crate::lines::Lines;
+use crate::machine::{MEMORY_SIZE, Machine};
+use crate::runs::{Progress, RunAnswer};
+use crate::step::{StepAnswer, single_step};
 use crate::watch::{reads_of, stores_of};
-use crate::{Lines, MEMORY_SIZE, Machine, Progress, RunAnswer, StepAnswer, single_step};
 
 /// What stands at some addresses in place of memory, with the two calls of mos6502's `Bus`.
 pub trait Device {

@@ -1,6 +1,8 @@
 //! A run to the address at which a program is meant to end.
 
-use crate::{Lines, Machine, Progress, RunAnswer, long_run};
+use crate::lines::Lines;
+use crate::machine::Machine;
+use crate::runs::{Progress, RunAnswer, long_run};
 
 /// How a run to a stop address ended, and how far it came. Only `Arrived` is what was asked for; there is no case for "it
 /// came back", so that a `match` must say what becomes of each.

@@ -1,3 +1,5 @@
+//! Steps, runs, lines and the numbers of the C functions, each on a memory of a few bytes.
+
 use std::vec;
 use std::vec::Vec;
 

@@ -17,7 +17,9 @@
 
 use core::ops::RangeInclusive;
 
-use crate::{Lines, Machine, Progress, RunAnswer};
+use crate::lines::Lines;
+use crate::machine::Machine;
+use crate::runs::{Progress, RunAnswer};
 
 unsafe extern "C" {
     fn mos6502_watched_run(

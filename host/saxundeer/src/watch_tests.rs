@@ -1,3 +1,5 @@
+//! The watched run, what a step reads and stores to, and devices.
+
 use std::collections::VecDeque;
 use std::vec;
 use std::vec::Vec;
