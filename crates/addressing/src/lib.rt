@@ -66,7 +66,7 @@ fn read_pointer(memory: &[u8], high: u8, byte: u8) -> [u8; 2]
     )
 }
 
-// An address that is not counted from another is put out at once.
+// An address that is not counted from another is on the bus at once.
 fn plain(at: Address) -> Target
     ensures { λ r. ⌜ r ≡ plain (at .0) ⌝ }
 {
@@ -77,7 +77,7 @@ fn plain(at: Address) -> Target
     }
 }
 
-// A base and an index: the part puts out the base's page with the sum's low byte first.
+// A base and an index: the base's page with the sum's low byte is first on the bus.
 fn indexed(base: Address, index: u8) -> Target
     ensures { λ r. ⌜ r ≡ indexed (base .0) index ⌝ }
 {

@@ -24,7 +24,7 @@ fn with_output(registers: Registers, output: ArithmeticOutput) -> Registers
     load_accumulator(set_overflow(carried, output.overflow), output.result)
 }
 
-// What ADC gives, decimal where D is set.
+// What ADC gives, decimal if D is set.
 fn sum(value: u8, registers: Registers) -> ArithmeticOutput
     ensures { λ r. ⌜ r ≡ sum value registers ⌝ }
 {
@@ -36,7 +36,7 @@ fn sum(value: u8, registers: Registers) -> ArithmeticOutput
     }
 }
 
-// What SBC gives, decimal where D is set.
+// What SBC gives, decimal if D is set.
 fn difference(value: u8, registers: Registers) -> ArithmeticOutput
     ensures { λ r. ⌜ r ≡ difference value registers ⌝ }
 {

@@ -34,7 +34,7 @@ partEnd ended size whole = cond ended size (cond (ltb 64 (size - whole)) size wh
 abbrev pub another : Bool → ℕ → ℕ → ℕ → Bool
 another ended size whole answer = cond ended false (cond (ltb 64 (size - whole)) false (eqb answer 0))
 
--- what is known then: of all that may follow, or where nothing follows of what was read
+-- what is known then: of all that may follow, or if nothing follows of what was read
 abbrev pub After : Bool → Bool → List ℕ → List ℕ → Part → List ℕ → List ℕ → Type 0
 After true ended image t p m k = Ahead image t (p .lines) (p .last) m k
 After false true image t p m k = checkedPart Start image t ≡ (p, m)
@@ -74,7 +74,7 @@ module _ (image t : List ℕ) (lines : ℕ) (last : Last) (m k : List ℕ) (a : 
   fits u f =
       omega (arith, f, a .few, length-append (t ++ n) u, length-append t n, length-append s u, length-append k n)
 
-  -- whole lines are checked first
+  -- whole entries are checked first
   cut : (u : List ℕ) → length ((t ++ n) ++ u) ≤ nowhere → checkedPart last m (s ++ u) ≡ goesOn (checkedPart last m whole) (rest ++ u)
   cut u f =
       let after : s ++ u ≡ whole ++ (rest ++ u) = ap (λ (l : List ℕ). l ++ u) (sym parted) ∙ append-assoc whole rest u in
@@ -98,7 +98,7 @@ module _ (image t : List ℕ) (lines : ℕ) (last : Last) (m k : List ℕ) (a : 
         all u f
         ∙ ap (added lines) (cut u f ∙ ap (λ (w : Part × List ℕ). goesOn w (rest ++ u)) (sym e) ∙ rw (ne-eqb (p .answer) 0 z))
 
-    -- the last line is too long
+    -- the last entry is too long
     pub overran : wholeEnd s + 41 ≤ length s → (p, m′) ≡ checkedPart last m s → Settled image (t ++ n) (added lines (p, m′))
     overran long e u f = all u f ∙ ap (added lines) (overlong s long last m u (fits u f) ∙ sym e)
 

@@ -19,11 +19,11 @@ use Rattle.check_program.specs.Turns.{partIn, Ends}
 abbrev pub textStatus : List ℕ → List ℕ → ℕ
 textStatus image text = logStatus (length image) (checkedPart Start image text .0 .answer) (checkedPart Start image text .0 .lines)
 
--- some text was read, and this is its status, where nothing failed
+-- some text was read, and this is its status, if nothing failed
 abbrev pub Concludes : List ℕ → ℕ → ℕ → Type 0
 Concludes image failed status = (t : List ℕ) × (length t ≤ nowhere → status ≡ firstOf failed (textStatus image t))
 
--- and is noted, where none was noted before that is not 0
+-- and is noted, if none was noted before that is not 0
 abbrev pub Notes : ℕ → List ℕ → ℕ → ℕ → Type 0
 Notes before image failed after = (t : List ℕ) × (length t ≤ nowhere → after ≡ firstOf before (firstOf failed (textStatus image t)))
 
@@ -42,7 +42,7 @@ module _ (image : List ℕ) (f : Found) {m : List ℕ} (e : Ends image f m) wher
   pub concluded : (size failed status : ℕ) → size ≡ length image → status ≡ firstOf failed (logStatus size (f .answer) (f .lines)) → Concludes image failed status
   concluded size failed status l s = (e .0, λ h. rw (check-found h) (rw l at s))
 
--- Where something failed, the status is that failure, whatever was read.
+-- If something failed, the status is that failure, whatever was read.
 pub not-concluded : (image : List ℕ) (failed : ℕ) → (failed ≡ 0 → ⊥) → Concludes image failed failed
 not-concluded image failed h = ([], λ z. rw (ne-eqb failed 0 h))
 

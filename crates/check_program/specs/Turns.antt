@@ -105,7 +105,7 @@ module _ (b : List ℕ) (kept size : ℕ) (ended : Bool) (f : Found) (m : List �
 pub nothing : (size kept : ℕ) (b : List ℕ) → size ≡ kept → take (size - kept) (drop kept b) ≡ []
 nothing size kept b e = let none : size - kept ≡ 0 = omega arith in ap (λ (i : ℕ). take i (drop kept b)) none
 
--- some more was read; where the log has ended, nothing
+-- some more was read; if the log has ended, nothing
 abbrev pub More : ℕ → Last → List ℕ → List ℕ → Turn → List ℕ → List ℕ → Type 0
 More lines last k m r k′ m′ = (n : List ℕ) × (ended : Bool) × Goes lines last k m n ended r k′ m′ × (ended ≡ true → n ≡ [])
 
@@ -113,7 +113,7 @@ More lines last k m r k′ m′ = (n : List ℕ) × (ended : Bool) × Goes lines
 abbrev pub Sofar : List ℕ → ℕ → Last → List ℕ → List ℕ → Type 0
 Sofar image lines last m k = (t : List ℕ) × (length t ≤ nowhere → Ahead image t lines last m k)
 
--- some text was read, and this is its check: whatever follows, or where nothing does
+-- some text was read, and this is its check: whatever follows, or if nothing does
 abbrev pub Ends : List ℕ → Found → List ℕ → Type 0
 Ends image f m = (t : List ℕ) × (length t ≤ nowhere → Settled image t (partIn f, m) ⊎ (checkedPart Start image t ≡ (partIn f, m)))
 

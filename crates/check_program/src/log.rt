@@ -21,7 +21,7 @@ use console::wipe_progress;
 use statuses::FAILED;
 use text::put_text;
 
-// What the check shows so far: its answer, the accepted lines and the last of them.
+// What the check shows so far: its answer, the accepted entries and the last of them.
 pub(crate) struct Found {
     pub(crate) answer: u8,
     pub(crate) lines: u64,
@@ -35,7 +35,7 @@ struct Turn {
     more: bool,
 }
 
-// Reads behind what was kept, and answers how much there is then: no more than before where the log has ended.
+// Reads behind what was kept, and answers how much there is then: no more than before if the log has ended.
 fn read_more(
     descriptor: i32,
     shown: &[u8],
@@ -58,8 +58,8 @@ fn read_more(
     kept + more
 }
 
-// Where a part ends: after its last LF. At the end of the log it is all there is, and so it is where more than 64 characters
-// stand after that LF, for no line has more than 41 (the theorems `joined` and `overlong` of checking).
+// Where a part ends: after its last LF. At the end of the log it is all there is, and so it is if more than 64 characters
+// stand after that LF, for no entry has more than 41 (the theorems `joined` and `overlong` of checking).
 fn part_end(size: usize, whole: usize, ended: bool) -> usize
     requires { ⌜ whole ≤ size ⌝ }
     ensures { λ r. ⌜ r ≡ partEnd ended size whole ⌝ }
@@ -100,7 +100,7 @@ fn goes_on(size: usize, whole: usize, ended: bool, answer: u8) -> bool
     answer == 0
 }
 
-// What a part shows, after so many lines.
+// What a part shows, after so many entries.
 fn tally(lines: u64, part: Part) -> Found
     ensures { λ r. ⌜ (lines + part .lines ≤ nowhere → partIn r ≡ added lines part) ⌝ }
 {
@@ -139,7 +139,7 @@ fn check_read(
     }
 }
 
-// Reads a part and checks it. Where it cannot be read nothing more is checked.
+// Reads a part and checks it. If it cannot be read nothing more is checked.
 fn check_some(
     descriptor: i32,
     shown: &[u8],
@@ -170,8 +170,8 @@ fn tell_progress(lines: u64) {
     show_progress(b"check", lines, b"lines");
 }
 
-// Reads the whole log and checks it, or stops at its first bad line: there is a text, the one that was read, of which this is
-// the check, whatever follows or where nothing does. The count of turns ends the loop for the proof alone.
+// Reads the whole log and checks it, or stops at its first bad entry: there is a text, the one that was read, of which this is
+// the check, whatever follows or if nothing does. The count of rounds ends the loop for the proof alone.
 fn check_from(descriptor: i32, shown: &[u8], copy: &mut [u8], failed: &mut u8) -> Found
     ensures { λ r. ⌜ (now (failed .exit) ≡ 0 → Ends (now (copy .entry)) r (now (copy .exit))) ⌝ }
     ensures { λ r. ⌜ FailureStays (now (failed .entry)) (now (failed .exit)) ⌝ }

@@ -1,4 +1,4 @@
--- What the lines of a part show, in the words of the rules.
+-- What the entries of a part show, in the words of the rules.
 use Prim.Native.Nat.{ℕ, zero, suc, _+_, _<_, _≤_}
 use mathlib.Core.Path.{_≡_, refl, ap, sym, _∙_, subst}
 use mathlib.Core.Bool.{Bool, true, false}
@@ -22,7 +22,7 @@ use Rattle.checking.specs.Checking.{partOf, accepted, ifAccepted, later}
 use Rattle.checking.specs.Turns.{at-malformed, at-state, turn-end}
 use Rattle.checking.specs.Logs.{logText, AllSpellable, Admits, Follow, Accepted, PartVerdict, all, malformed, astray}
 
--- ---- one line
+-- ---- one entry
 
 accepts : (last : Last) (t : Machine) (m m′ : List ℕ) → accepted last t m ≡ (true, m′) → Admits last m t m′
 accepts Start t m m′ e = ap (λ (w : Bool × List ℕ). w .1) e
@@ -51,7 +51,7 @@ stays last t m (false, e) f never = ap (λ (l : List ℕ). (false, l)) (not-acce
 some-line : (t : Machine) (u : List ℕ) → 0 < length (lineText t ++ u)
 some-line t u = omega (arith, length-append (lineText t) u, line.line-length t)
 
--- the line of a state
+-- the entry of a state
 at-line : (k : ℕ) (last : Last) (m : List ℕ) (t : Machine) (rest : List ℕ) → Spellable t
     → later 0 k last m (lineText t ++ rest) ≡ ifAccepted k last (λ m′. later 0 (k + 1) (After t) m′ rest) (accepted last t m)
 at-line k last m t rest h =
@@ -61,7 +61,7 @@ at-line k last m t rest h =
 
 -- ---- what the rules describe is what is answered
 
--- over lines that follow
+-- over entries that follow
 pub along : (l : List Machine) (k : ℕ) (last last′ : Last) (m m′ rest : List ℕ) → AllSpellable l → Follow last m l last′ m′
     → later 0 k last m (logText l ++ rest) ≡ later 0 (k + length l) last′ m′ rest
 along [] k last last′ m m′ rest h f =
@@ -77,7 +77,7 @@ module _ (k : ℕ) (last : Last) (m text : List ℕ) {l : List Machine} {last′
   pub over : later 0 k last m text ≡ later 0 (k + length l) last′ m′ rest
   over = ap (λ (u : List ℕ). later 0 k last m u) (a .text-is) ∙ along l k last last′ m m′ rest (a .spellable) (a .follow)
 
-  -- what follows the accepted lines is no longer than all of it
+  -- what follows the accepted entries is no longer than all of it
   pub rest-fits : length text ≤ nowhere → length rest ≤ nowhere
   rest-fits fits = omega (arith, ap length (a .text-is), length-append (logText l) rest)
 
@@ -120,11 +120,11 @@ one-more k last t m m₁ text rest o h g e v = go v
     go (malformed l last′ m′ tail a some never q) = malformed (t ∷ l) last′ m′ tail (longer a) some never (counted 11 (length l) last′ m′ q)
     go (astray l last′ m′ v tail a spelled never q) = astray (t ∷ l) last′ m′ v tail (longer a) spelled never (counted 12 (length l) last′ m′ q)
 
--- no line is accepted
+-- no entry is accepted
 none : (last : Last) (m text : List ℕ) → Accepted last m text [] last m text
 none last m text = record { spellable = tt; follow = (refl, refl); text-is = refl }
 
--- one line, the check of what follows being known
+-- one entry, the check of what follows being known
 module _ (n k : ℕ) (last : Last) (m text : List ℕ) (short : length text < suc n) (fits : length text ≤ nowhere) (some : 0 < length text)
     (further : (t : Machine) (m₁ u : List ℕ) → length u < n → length u ≤ nowhere → PartVerdict (k + 1) (After t) m₁ u (later 0 (k + 1) (After t) m₁ u)) where
   by-state : (q : Spelled) → lineOf text ≡ State q → (w : Bool × List ℕ) → accepted last (q .machine) m ≡ w → PartVerdict k last m text (later 0 k last m text)

@@ -1,4 +1,4 @@
--- Where a text can be cut so that what stands before the cut are whole lines.
+-- Where a text can be cut so that what stands before the cut are whole entries.
 use Prim.Native.Nat.{ℕ, zero, suc, _-_, _<_, _≤_}
 use mathlib.Core.Path.{_≡_, refl, ap, sym, _∙_}
 use mathlib.Core.Logic.{inl, inr}
@@ -13,7 +13,7 @@ use lib.Seq.{take-suc}
 use borrow.Author.Tests.{eq-eqb, ne-eqb, eqb-true, eqb-false}
 use Rattle.checking.specs.Parts.{Whole}
 
--- the place after the last LF among the first n characters; 0 where there is none
+-- the place after the last LF among the first n characters; 0 if there is none
 unfoldable pub endBefore : ℕ → List ℕ → ℕ
 endBefore zero s = 0
 endBefore (suc n) s = cond (eqb (getD s n 0) 10) (suc n) (endBefore n s)
@@ -38,7 +38,7 @@ unfolding endBefore
 end-none s zero h = refl
 end-none s (suc n) h = absurd (not-suc-le-zero h)
 
--- ---- what stands before the cut are whole lines
+-- ---- what stands before the cut are whole entries
 
 whole-before : (n : ℕ) (s : List ℕ) → n ≤ length s → Whole (take (endBefore n s) s)
 unfolding endBefore

@@ -33,7 +33,7 @@ abbrev pub laterStates : ℕ → Machine → List ℕ → List Machine
 laterStates zero s m = []
 laterStates (suc n) s m = let w = exec (stepFull idle s) m in w .0 .machine ∷ laterStates n (w .0 .machine) (w .1)
 
--- the log of n steps: n + 1 lines
+-- the log of n steps: n + 1 entries
 abbrev pub printed : ℕ → Machine → List ℕ → List ℕ
 printed n s m = logText (s ∷ laterStates n s m)
 

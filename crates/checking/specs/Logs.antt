@@ -1,4 +1,4 @@
--- What the rules say of a trace (P10): the states that its lines spell, each the state after one step from the one before.
+-- What the rules say of a trace (P10): the states that its entries spell, each the state after one step from the one before.
 use Prim.Native.Nat.{ℕ, _+_, _<_}
 use mathlib.Core.Path.{_≡_}
 use mathlib.Core.Logic.{_⊎_}
@@ -14,7 +14,7 @@ use Rattle.checking.specs.declared.Part.{Part}
 use Rattle.checking.specs.declared.Checked.{Checked}
 use Rattle.checking.specs.Checking.{partOf, checkedOf}
 
--- the text of a log, a line for each state
+-- the text of a log, an entry for each state
 abbrev pub logText : List Machine → List ℕ
 logText [] = []
 logText (s ∷ l) = lineText s ++ logText l
@@ -23,18 +23,18 @@ abbrev pub AllSpellable : List Machine → Type 0
 AllSpellable [] = Unit
 AllSpellable (s ∷ l) = Spellable s × AllSpellable l
 
--- after the last line and on the memory m, the state t may stand in the next one, and m′ is then the memory: the first line may be any, and
+-- after the last entry and on the memory m, the state t may stand in the next one, and m′ is then the memory: the first entry may be any, and
 -- with it no step is made; a later one is the state after one step of the definition
 abbrev pub Admits : Last → List ℕ → Machine → List ℕ → Type 0
 Admits Start m t m′ = m ≡ m′
 Admits (After s) m t m′ = OneStep s m t m′
 
--- Each state of l may stand in the line after the one before it, the memory carried along; the last of them is then last′, and m′ the memory.
+-- Each state of l may stand in the entry after the one before it, the memory carried along; the last of them is then last′, and m′ the memory.
 abbrev pub Follow : Last → List ℕ → List Machine → Last → List ℕ → Type 0
 Follow last m [] last′ m′ = (last ≡ last′) × (m ≡ m′)
 Follow last m (t ∷ l) last′ m′ = (m₁ : List ℕ) × Admits last m t m₁ × Follow (After t) m₁ l last′ m′
 
--- A log on an image: a first line, and later ones that each are the state after a step from the line before. It leaves the memory m′.
+-- A log on an image: a first entry, and later ones that each are the state after a step from the entry before. It leaves the memory m′.
 pub record Log (image text m′ : List ℕ) : Type 0 where
   pub first : Machine
   pub others : List Machine
@@ -43,17 +43,17 @@ pub record Log (image text m′ : List ℕ) : Type 0 where
   pub spelled : text ≡ logText (first ∷ others)
   pub follow : Follow (After first) image others last m′
 
--- no state's line stands at the head of the text: it is malformed, cut short or not there
+-- no state's entry stands at the head of the text: it is malformed, cut short or not there
 abbrev pub NoLine : List ℕ → Type 0
 NoLine text = (t : Machine) (u : List ℕ) → Spellable t → text ≡ lineText t ++ u → ⊥
 
--- The lines l are accepted, from the last line before them and the memory m, and lead to last′ and m′; `rest` is what follows them in the text.
+-- The entries l are accepted, from the last entry before them and the memory m, and lead to last′ and m′; `rest` is what follows them in the text.
 pub record Accepted (last : Last) (m text : List ℕ) (l : List Machine) (last′ : Last) (m′ rest : List ℕ) : Type 0 where
   pub spellable : AllSpellable l
   pub follow : Follow last m l last′ m′
   pub text-is : text ≡ logText l ++ rest
 
--- a part of a trace, after k lines: all lines are accepted, or the first bad one follows the accepted ones
+-- a part of a trace, after k entries: all entries are accepted, or the first bad one follows the accepted ones
 pub data PartVerdict (k : ℕ) (last : Last) (m text : List ℕ) (o : Part × List ℕ) : Type 0 where
   all : (l : List Machine) (last′ : Last) (m′ : List ℕ) → Accepted last m text l last′ m′ []
       → o ≡ (partOf 0 (k + length l) last′, m′)
@@ -70,9 +70,9 @@ pub data PartVerdict (k : ℕ) (last : Last) (m text : List ℕ) (o : Part × Li
 pub data Verdict (image text copy : List ℕ) (o : Checked × List ℕ) : Type 0 where
   -- 1: nothing is written
   not-full : ((length image ≡ fullMemory) × (length copy ≡ fullMemory) → ⊥) → o ≡ (checkedOf 1 0, copy) → Verdict image text copy o
-  -- 0: the copy is left as the last line leaves it
+  -- 0: the copy is left as the last entry leaves it
   accepted : length image ≡ fullMemory → length copy ≡ fullMemory → (m′ : List ℕ) → Log image text m′ → o ≡ (checkedOf 0 0, m′) → Verdict image text copy o
-  -- 11: the line after the accepted ones is malformed or cut short, or there is no line at all
+  -- 11: the entry after the accepted ones is malformed or cut short, or there is no entry at all
   bad-line : length image ≡ fullMemory → length copy ≡ fullMemory
       → (l : List Machine) (last : Last) (m′ rest : List ℕ) → Accepted Start image text l last m′ rest → (0 < length rest) ⊎ (l ≡ []) → NoLine rest
       → o ≡ (checkedOf 11 (length l + 1), m′)

@@ -1,4 +1,4 @@
--- Where more characters than a line can have stand after the last LF, that line is malformed, whatever follows: it need not be read to its end.
+-- If more characters than an entry can have stand after the last LF, that entry is malformed, whatever follows: it need not be read to its end.
 use Prim.Native.Nat.{ℕ, _+_, _<_, _≤_}
 use mathlib.Core.Path.{_≡_, refl, ap, sym, _∙_}
 use mathlib.Core.Bool.{cond}
@@ -21,7 +21,7 @@ use Rattle.checking.specs.Logs.{NoLine}
 use Rattle.checking.specs.Parts.{added, joined}
 use Rattle.checking.specs.Cutting.{wholeEnd, cut-whole, no-feed}
 
--- the LF of a line
+-- the LF of an entry
 feed-at : (a w : List ℕ) → getD ((a ++ 10 ∷ []) ++ w) (length a) 0 ≡ 10
 feed-at a w =
     ap (λ (l : List ℕ). getD l (length a) 0) (append-assoc a (10 ∷ []) w)

@@ -23,15 +23,15 @@ use Rattle.checking.specs.Turns.{at-malformed}
 use Rattle.checking.specs.Logs.{logText, Accepted, PartVerdict, all, malformed, astray}
 use Rattle.checking.specs.Accepting.{over, astray-line, part-verdict}
 
--- more lines are accepted before those of a part
+-- more entries are accepted before those of a part
 abbrev pub added : ℕ → Part × List ℕ → Part × List ℕ
 added k w = (partOf (w .0 .answer) (k + w .0 .lines) (w .0 .last), w .1)
 
--- where all lines of a part are accepted, what follows it is checked from the state and on the memory that it leaves; otherwise its answer stands
+-- if all entries of a part are accepted, what follows it is checked from the state and on the memory that it leaves; otherwise its answer stands
 abbrev pub goesOn : Part × List ℕ → List ℕ → Part × List ℕ
 goesOn w u = cond (eqb (w .0 .answer) 0) (added (w .0 .lines) (checkedPart (w .0 .last) (w .1) u)) w
 
--- whole lines: nothing, or a text that ends with LF
+-- whole entries: nothing, or a text that ends with LF
 abbrev pub Whole : List ℕ → Type 0
 Whole part = (part ≡ []) ⊎ ((front : List ℕ) × (part ≡ front ++ 10 ∷ []))
 
@@ -72,7 +72,7 @@ whole-rest part l rest (inr w) g some = left-ends (logText l) rest (w .0) some (
 -- ---- two parts
 
 module _ (last : Last) (m part u : List ℕ) (fits : length (part ++ u) ≤ nowhere) (whole : Whole part) where
-  -- the lines accepted in the part are accepted in the two
+  -- the entries accepted in the part are accepted in the two
   longer : {l : List Machine} {last′ : Last} {m′ rest : List ℕ} → Accepted last m part l last′ m′ rest → Accepted last m (part ++ u) l last′ m′ (rest ++ u)
   longer {l} {last′} {m′} {rest} a = record {
     spellable = a .spellable;
@@ -102,6 +102,6 @@ module _ (last : Last) (m part u : List ℕ) (fits : length (part ++ u) ≤ nowh
       ∙ astray-line (0 + length l) last′ m′ t (rest ++ u) spelled never
       ∙ ap (λ (v : Part × List ℕ). goesOn v u) (sym q)
 
-  -- Whole lines and then the rest are checked as all of it as one: the same answer, the counts added, the same last state and memory.
+  -- Whole entries and then the rest are checked as all of it as one: the same answer, the counts added, the same last state and memory.
   pub joined : checkedPart last m (part ++ u) ≡ goesOn (checkedPart last m part) u
   joined = by-verdict (checkedPart last m part) (part-verdict 0 last m part (omega (arith, length-append part u)))

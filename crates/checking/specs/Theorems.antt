@@ -1,5 +1,5 @@
--- The check answers what the rules ask of it (P10): accepted exactly the logs, a refusal names the first bad line, and the copy is left as the
--- accepted lines leave it.
+-- The check answers what the rules ask of it (P10): accepted exactly the logs, a refusal names the first bad entry, and the copy is left as the
+-- accepted entries leave it.
 use Prim.Native.Nat.{ℕ, zero, suc, _+_, _<_, _≤_}
 use mathlib.Core.Path.{_≡_, refl, ap, sym, _∙_, subst}
 use mathlib.Core.Logic.{_↔_, _⊎_, inl, inr}
@@ -22,11 +22,11 @@ use Rattle.checking.specs.Turns.{turn-end, short-image, short-copy, both
 use Rattle.checking.specs.Logs.{logText, Follow, Log, NoLine, Accepted, PartVerdict, all, malformed, astray, Verdict, not-full, accepted, bad-line, bad-state}
 use Rattle.checking.specs.Accepting.{over, part-only, part-verdict}
 
--- there is no line in an empty text
+-- there is no entry in an empty text
 no-text : NoLine []
 no-text t u h e = omega (arith, ap length e, length-append (lineText t) u, line-length t)
 
--- a log is a first line that is accepted, and the others
+-- a log is a first entry that is accepted, and the others
 log-of : (image text : List ℕ) (s : Machine) (l : List Machine) (last : Last) (m′ : List ℕ) → Accepted Start image text (s ∷ l) last m′ [] → Log image text m′
 log-of image text s l last m′ a = record {
   first = s;
@@ -44,7 +44,7 @@ lines-of image text m′ g = record {
   text-is = g .spelled ∙ sym (append-nil (logText (g .first ∷ g .others)));
 }
 
--- the answer of all lines as one part
+-- the answer of all entries as one part
 counted : (answer n : ℕ) (last : Last) (m : List ℕ) → _≡_ {A = Part × List ℕ} (partOf answer (0 + n) last, m) (partOf answer n last, m)
 counted answer n last m = let count : 0 + n ≡ n = omega arith in ap (λ (k : ℕ). (partOf answer k last, m)) count
 
@@ -57,17 +57,17 @@ module _ (image text copy : List ℕ) where
       by-length (no n) = short-image image text copy n
 
   module _ (full : length image ≡ fullMemory) (full-copy : length copy ≡ fullMemory) where
-    -- by what all lines as one part show
+    -- by what all entries as one part show
     by-part : {answer n : ℕ} {last : Last} {m′ : List ℕ} → later 0 0 Start image text ≡ (partOf answer n last, m′)
         → checkedTrace image text copy ≡ (closed answer n, m′)
     by-part e = both-full image text copy full full-copy ∙ ap closing e
 
-    -- at least one line
+    -- at least one entry
     by-lines : {n : ℕ} {last : Last} {m′ : List ℕ} → later 0 0 Start image text ≡ (partOf 0 (suc n) last, m′)
         → checkedTrace image text copy ≡ (checkedOf 0 0, m′)
     by-lines {n} e = by-part e ∙ rw (ne-eqb (suc n) 0 (λ z. omega arith))
 
-    -- A log is accepted, and the copy is left as its last line leaves it.
+    -- A log is accepted, and the copy is left as its last entry leaves it.
     pub log-accepted : (m′ : List ℕ) → Log image text m′ → checkedTrace image text copy ≡ (checkedOf 0 0, m′)
     log-accepted m′ g =
         let n = length (g .others) in
@@ -129,7 +129,7 @@ module _ (image text copy : List ℕ) where
     from-verdict o (bad-line f h l last m′ rest a some never g) z = absurd (other (omega arith) g z)
     from-verdict o (bad-state f h l last m′ t rest a spelled never g) z = absurd (other (omega arith) g z)
 
-    -- Accepted exactly when there is at least one line, and each later line is the state after one step from the line before.
+    -- Accepted exactly when there is at least one entry, and each later entry is the state after one step from the entry before.
     pub accepted-exactly : (checkedTrace image text copy .0 .answer ≡ 0) ↔ ((m′ : List ℕ) × Log image text m′)
     accepted-exactly = (
       (λ z. from-verdict (checkedTrace image text copy) (verdict-of fits) z),

@@ -1,4 +1,4 @@
--- One line of a trace, for the loop of the code and for the theorems.
+-- One entry of a trace, for the loop of the code and for the theorems.
 use Prim.Native.Nat.{ℕ, zero, suc, _+_, _-_, _<_, _≤_}
 use mathlib.Core.Path.{_≡_, refl, ap, sym, _∙_}
 use mathlib.Core.Bool.{Bool, true, false}
@@ -27,7 +27,7 @@ skip zero k last m text = refl
 skip (suc passed) k last m [] = refl
 skip (suc passed) k last m (c ∷ text) = skip passed k last m text
 
--- a line of at least one character
+-- an entry of at least one character
 skip-line : (size k j : ℕ) (last : Last) (t : Machine) (c : ℕ) (text : List ℕ) → 0 < size → (w : Bool × List ℕ)
     → ifAccepted k last (λ m. later (size - 1) j (After t) m text) w ≡ ifAccepted k last (λ m. later 0 j (After t) m (drop size (c ∷ text))) w
 skip-line zero k j last t c text some w = absurd (omega arith)
@@ -53,7 +53,7 @@ pub turn-end : (text : List ℕ) (at k : ℕ) (last : Last) (m : List ℕ) → l
 unfolding later
 turn-end text at k last m h = rw (drop-of-length-le text {i = at} h)
 
--- the line that was read is the one of the rest of the text
+-- the entry that was read is the one of the rest of the text
 from-malformed : (at : ℕ) (l : Line) → lineFrom at l ≡ Malformed → l ≡ Malformed
 from-malformed at Malformed e = refl
 from-malformed at (State q) e = let z : _≡_ {A = ℕ} 0 1 = cc in absurd (omega arith)
@@ -74,7 +74,7 @@ module _ (text : List ℕ) (at : ℕ) (fits : length text ≤ nowhere) (inside :
   some-left : 0 < length (drop at text)
   some-left = omega (arith, length-drop at text)
 
-  -- a line has at least 21 characters
+  -- an entry has at least 21 characters
   pub long-line : (p : Spelled) → r ≡ State p → at + 21 ≤ p .next
   long-line p g =
       let q = from-state at (lineOf (drop at text)) p (sym e ∙ g) in

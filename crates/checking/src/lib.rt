@@ -1,5 +1,5 @@
-// Checks a recorded trace: lines that each spell a state, of which every later one is to be the state after one step
-// from the line before, with idle lines.
+// Checks a recorded trace: entries that each spell a state, of which every later one is to be the state after one step
+// from the entry before, with idle lines.
 ghost use mathlib.Core.Path.{_≡_};
 ghost use Prim.Native.Nat.{_≤_, _<_};
 ghost use lib.ListN.{length};
@@ -11,13 +11,13 @@ use state_lines::Line;
 use state_lines::read_state;
 use undo::follow;
 
-// The last accepted line: none yet, or the state that it spelled.
+// The last accepted entry: none yet, or the state that it spelled.
 pub enum Last {
     Start,
     After(Machine),
 }
 
-// What a part of a trace shows: 0 where all its lines are accepted, and otherwise why the line after the accepted ones is
+// What a part of a trace shows: 0 if all its entries are accepted, and otherwise why the entry after the accepted ones is
 // bad; how many were accepted in it, and the last one.
 pub struct Part {
     pub answer: u8,
@@ -25,7 +25,7 @@ pub struct Part {
     pub last: Last,
 }
 
-// 0 where the trace is accepted; else why not, and which line is the first bad one, counted from 1. The line is 0 where
+// 0 if the trace is accepted; else why not, and which entry is the first bad one, counted from 1. `line` is 0 if
 // none is bad: on 0, and on 1.
 pub struct Checked {
     pub answer: u8,
@@ -55,7 +55,7 @@ impl Checked {
     }
 }
 
-// Whether a state may stand in the next line; if so, the step to it is made.
+// Whether a state may stand in the next entry; if so, the step to it is made.
 fn accept(last: Last, next: Machine, copy: &mut [u8]) -> bool
     ensures { λ r. ⌜ (r, now (copy .exit)) ≡ accepted last next (now (copy .entry)) ⌝ }
 {
@@ -65,7 +65,7 @@ fn accept(last: Last, next: Machine, copy: &mut [u8]) -> bool
     }
 }
 
-// Checks a part of a trace that begins with a line, after `start`, on the memory that the lines before it leave. A part that
+// Checks a part of a trace that begins with an entry, after `start`, on the memory that the entries before it leave. A part that
 // ends with LF can be followed by another one: the theorem `joined` says that this checks the two as one.
 pub fn check_part(start: Last, part: &[u8], copy: &mut [u8]) -> Part
     ensures { λ r. ⌜ (r, now (copy .exit)) ≡ checkedPart start (now (copy .entry)) (now (part .entry)) ⌝ }
@@ -95,7 +95,7 @@ pub fn check_part(start: Last, part: &[u8], copy: &mut [u8]) -> Part
     Part::new(0, lines, last)
 }
 
-// The place after the last LF of a text: so far it consists of whole lines.
+// The place after the last LF of a text: so far it consists of whole entries.
 pub fn whole_lines(text: &[u8]) -> usize
     ensures { λ r. ⌜ r ≡ wholeEnd (now (text .entry)) ⌝ }
     ensures { λ r. ⌜ r ≤ length (now (text .entry)) ⌝ }
@@ -111,7 +111,7 @@ pub fn whole_lines(text: &[u8]) -> usize
     0
 }
 
-// What all lines of a trace show: a trace without a line is malformed too, line 1 is missing.
+// What all entries of a trace show: a trace without an entry is malformed too, entry 1 is missing.
 fn close(answer: u8, lines: usize) -> Checked
     requires { ⌜ lines < 18446744073709551615 ⌝ }
     ensures { λ r. ⌜ r ≡ closed answer lines ⌝ }
@@ -136,7 +136,7 @@ fn copy_image(image: &[u8], copy: &mut [u8])
     }
 }
 
-// Checks a trace against an image. `copy` starts as the image and is left as the accepted lines leave it; only answer 1
+// Checks a trace against an image. `copy` starts as the image and is left as the accepted entries leave it; only answer 1
 // leaves it untouched.
 pub fn check_trace(image: &[u8], lines: &[u8], copy: &mut [u8]) -> Checked
     ensures { λ r. ⌜ (r, now (copy .exit)) ≡ checkedTrace (now (image .entry)) (now (lines .entry)) (now (copy .entry)) ⌝ }

@@ -22,6 +22,6 @@ noted before status h = by-test (eqb before 0) refl
     by-test true e z = h z
     by-test false e z = eqb-false before 0 e z
 
--- A later failure is noted only where there was none.
+-- A later failure is noted only if there was none.
 pub stays-noted : (before status : ℕ) → FailureStays before (firstOf before status)
 stays-noted before status h = rw (ne-eqb before 0 h)

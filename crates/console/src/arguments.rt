@@ -19,7 +19,7 @@ pub(crate) fn is_standard_input(index: usize) -> bool {
     os::arg_count() <= index || argument_is(index, b"-")
 }
 
-// An argument as an address: `next` is NOWHERE where it is none, or missing.
+// An argument as an address: `next` is NOWHERE if it is none, or missing.
 pub fn address_argument(index: usize) -> Word {
     let mut text = io::buffer();
     let length = os::arg(index, &mut text);
@@ -53,8 +53,8 @@ fn has_option(from: usize) -> bool {
     false
 }
 
-// Where the names of files begin among the arguments from an index on: after `--`, where that is the first of them, and then
-// a name may begin with `-` too. 0 where none stands there and one of them is an option, which no program takes.
+// Where the names of files begin among the arguments from an index on: after `--`, if that is the first of them, and then
+// a name may begin with `-` too. 0 if none stands there and one of them is an option, which no program takes.
 pub fn names_from(from: usize) -> usize
     requires { ⌜ from ≤ 255 ⌝ }
     ensures { λ r. ⌜ r ≤ from + 1 ⌝ }

@@ -13,7 +13,7 @@ use statuses::FAILED;
 use statuses::NOT_OPENED;
 use text::put_text;
 
-// Opens a file, which sentences call `shown`. Where it cannot be opened 66 is noted, and the answer is below 0.
+// Opens a file, which sentences call `shown`. If it cannot be opened 66 is noted, and the answer is below 0.
 fn open_file(name: &[u8], shown: &[u8], failed: &mut u8) -> i32
     ensures { λ r. ⌜ FailureStays (now (failed .entry)) (now (failed .exit)) ⌝ }
 {

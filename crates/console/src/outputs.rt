@@ -21,7 +21,7 @@ pub fn note_failure(status: u8, failed: &mut u8)
     *failed = first_of(before, status);
 }
 
-// Writes to standard output. Where that fails it is said, and 74 is noted.
+// Writes to standard output. If that fails it is said, and 74 is noted.
 pub fn write_output(text: &[u8], failed: &mut u8)
     ensures { λ r. ⌜ FailureStays (now (failed .entry)) (now (failed .exit)) ⌝ }
 {
@@ -32,7 +32,7 @@ pub fn write_output(text: &[u8], failed: &mut u8)
     note_failure(FAILED, failed);
 }
 
-// Writes to standard error. Where that fails 74 is noted: a sentence is part of the answer.
+// Writes to standard error. If that fails 74 is noted: a sentence is part of the answer.
 pub fn say(text: &[u8], failed: &mut u8)
     ensures { λ r. ⌜ FailureStays (now (failed .entry)) (now (failed .exit)) ⌝ }
 {

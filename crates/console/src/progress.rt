@@ -1,4 +1,4 @@
-// How far a long piece of work is, where standard error is a terminal: one line that is renewed.
+// How far a long piece of work is, if standard error is a terminal: one line that is renewed.
 use libc::STDERR_FILENO;
 
 // Shows a count, with a word for what is counted.

@@ -24,7 +24,7 @@ parted-cycles q e l = omega arith
 module _ (bound clock ticks next : ℕ)
     (most : bound ≤ 16777216) (keeps : Keeps bound clock) (few : ticksOf ticks ≤ 7) (within : ticks ≤ 268435456)
     (fits : clock < 18446744073709551616) (fits-next : next < 18446744073709551616) (off : (next + ticks) % 18446744073709551616 ≡ clock) where
-  -- where no step follows, it cannot
+  -- if no step follows, it cannot
   pub no-step : clock < ticks → stepsIn clock ≡ 0
   no-step l = omega (arith, within)
 
@@ -38,7 +38,7 @@ module _ (bound clock ticks next : ℕ)
     some : 0 < stepsIn clock
     some = omega arith
 
-    -- where it can, one step less follows
+    -- if it can, one step less follows
     taken : next ≡ 268435456 * (stepsIn clock - 1) + (cyclesIn clock + ticksOf ticks)
     taken = whole (stepsIn clock) (cyclesIn clock) some (omega arith) (omega arith)
       where

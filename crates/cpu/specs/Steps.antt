@@ -33,7 +33,7 @@ abbrev pub ticksIn : Dispatched → ℕ
 ticksIn (Dispatched.Performed p) = p .ticks
 ticksIn Dispatched.NotAnOpcode = 268435456
 
--- Where there is room and no line to serve, the step is what the byte at the counter does, and it takes at most seven cycles: so
+-- If there is room and no line to serve, the step is what the byte at the counter does, and it takes at most seven cycles: so
 -- much less than a step it takes off the clock.
 pub record StepsBy (lines : Lines) (s : Machine) (m : List ℕ) (q : Dispatched) (m′ : List ℕ) : Type 0 where
   pub gives : Gives (stepFull lines s) m (stepBy lines s q) m′

@@ -1,4 +1,4 @@
--- Steps on a full memory, and the address that the last of them put out first, which a run drops and a step keeps.
+-- Steps on a full memory, and the first address on the bus of the last of them, which a run drops and a step keeps.
 use Prim.Native.Nat.{ℕ, zero, suc, _+_}
 use mathlib.Core.Path.{_≡_, refl, ap, sym, _∙_}
 use mathlib.Core.Bool.{Bool, true, false, cond}
@@ -19,7 +19,7 @@ use Rattle.cpu.specs.declared.Travelled.{Travelled}
 abbrev pub travelled : ℕ → Ended → Travelled
 travelled first q = record { ended = q; first = first }
 
--- n more steps, after k; the last of them put out `first`
+-- n more steps, after k; `first` is the first address of the last of them
 unfoldable pub travelling : ℕ → ℕ → ℕ → Lines → Machine → Micro Travelled
 travelling zero k first lines s = done (travelled first (ended Made k s))
 travelling (suc n) k first lines s = do
@@ -51,7 +51,7 @@ travel-same {n} {n′} {k} {k′} {c} {c′} first lines r nmi m e f g =
     ∙ ap (λ (x : ℕ). exec (travelling n′ x first lines (machineOf r c nmi)) m) f
     ∙ ap (λ (x : ℕ). exec (travelling n′ k′ first lines (machineOf r x nmi)) m) g
 
--- what the step before put out does not matter where another one follows
+-- the first address of a step does not matter if another one follows
 pub travel-first : (n k first : ℕ) (lines : Lines) (s : Machine) → travelling (suc n) k first lines s ≡ travelling (suc n) k 0 lines s
 unfolding travelling
 travel-first n k first lines s = refl

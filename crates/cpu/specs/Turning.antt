@@ -35,7 +35,7 @@ raised nmi = record { irq = true; nmi = nmi }
 abbrev pub levelled : Bool → Machine → Machine
 levelled nmi s = machineOf (s .registers) (s .cycles) nmi
 
--- the machine that is left has the present level of NMI, also where no step was made
+-- the machine that is left has the present level of NMI, also if no step was made
 abbrev pub recording : Lines → Travelled → Travelled
 recording lines w = travelled (w .first) (ended (w .ended .reason) (w .ended .steps) (levelled (lines .nmi) (w .ended .machine)))
 
@@ -80,7 +80,7 @@ turn-gives : (n : ℕ) (lines : Lines) (s : Machine) (m : List ℕ) (j : ℕ) {w
 unfolding turning
 turn-gives n lines s m j e g = rw e (then (travelling j 0 0 lines s) _ m g refl)
 
--- where a line is due
+-- if a line is due
 one-of : (d : Due) (n vector : ℕ) → d ≡ Through vector → stretch d n ≡ 1
 one-of (Through v) n vector e = refl
 one-of Quiet n vector e = absurd (not-quiet Quiet vector refl e)
@@ -95,7 +95,7 @@ turn-serves n lines s m vector e h =
     (travel-made lines s m _ (w .1) (step-serves lines s m vector {r = w .0} h e refl) 0 0 0 refl ∙ travel-end 1 0 lines _ (w .1))
     ∙ sym (exec-bind (served vector (s .registers)) _ m)
 
--- where there is no room, no step is made
+-- if there is no room, no step is made
 stretch-some : (d : Due) (n : ℕ) → 0 < n → stretch d n ≡ suc (stretch d n - 1)
 stretch-some (Through vector) n l = omega arith
 stretch-some Quiet n l = omega arith
@@ -116,7 +116,7 @@ raised-quiet nmi r cycles = due-none (raised nmi) (machineOf r cycles nmi) (high
 levelOf : Travelled × List ℕ → Bool
 levelOf w = w .0 .ended .machine .nmi
 
--- where the last level is the present one it stays so
+-- if the last level is the present one it stays so
 held : (n k first : ℕ) (lines : Lines) (s : Machine) (m : List ℕ) → s .nmi ≡ lines .nmi → levelOf (exec (travelling n k first lines s) m) ≡ lines .nmi
 unfolding levelOf
 held zero k first lines s m e = ap levelOf (travel-end k first lines s m) ∙ e
@@ -180,14 +180,14 @@ module _ (lines : Lines) (s : Machine) (m : List ℕ) (e : due lines s ≡ Quiet
       ∙ rest n _ _ _ calm refl
       ∙ sym (travel-made (raised nmi) flat m _ _ (step-defined (raised nmi) flat m (h .2 .0) (h .0) (raised-quiet nmi (s .registers) (s .cycles)) (h .2 .1) refl) n 0 0 refl)
 
-  -- where none is due, a turn is steps with IRQ high and NMI at the present level throughout
+  -- if none is due, a turn is steps with IRQ high and NMI at the present level throughout
   pub turn-walks : (n : ℕ) → Calm lines n → exec (turning n lines s) m ≡ exec (travelling n 0 0 (raised nmi) flat) m
   turn-walks zero calm = turn-gives zero lines s m zero (all-of zero) (travel-end 0 0 lines s m) ∙ sym (travel-end 0 0 (raised nmi) flat m)
   turn-walks (suc n) calm = by-first n calm (way lines s m)
 
 -- ---- a step and a run by turns
 
--- the machine that a run leaves: where it made a step it has the present level, and otherwise it is the one that was given
+-- the machine that a run leaves: if it made a step it has the present level, and otherwise it is the one that was given
 pub settles : (n : ℕ) (lines : Lines) (s : Machine) (m : List ℕ) {q : Ended} {m′ : List ℕ} → Ends n lines s m q m′
     → cond (ltb 0 (q .steps)) (levelled (lines .nmi) (q .machine)) s ≡ q .machine
 settles n lines s m end = by-end end
@@ -308,7 +308,7 @@ module _ (lines : Lines) (s : Machine) (n j : ℕ) (l : 0 < j) (u : j ≤ n) whe
         few (no-cycle-room l led r) = omega (arith, some (due lines s) .1)
         few (not-an-opcode l led r) = omega (arith, some (due lines s) .1)
 
-    -- where it was stopped, so is the run
+    -- if it was stopped, so is the run
     pub turn-stops : isMade (q .reason) ≡ false → Gives (runFull n 0 lines s) m q m′
     turn-stops f =
         let e : far + (n - far) ≡ n = omega (arith, some (due lines s) .1) in
@@ -319,7 +319,7 @@ module _ (lines : Lines) (s : Machine) (n j : ℕ) (l : 0 < j) (u : j ≤ n) whe
     steps-of (no-cycle-room l led r) h = let z : _≡_ {A = ℕ} 0 1 = cc in absurd (omega arith)
     steps-of (not-an-opcode l led r) h = let z : _≡_ {A = ℕ} 0 1 = cc in absurd (omega arith)
 
-    -- where it was not, it has made a step, and the run goes on from the machine that it left
+    -- if it was not, it has made a step, and the run goes on from the machine that it left
     pub turn-goes : isMade (q .reason) ≡ true
         → (0 < q .steps) × (exec (runFull n 0 lines s) m ≡ added (q .steps) (exec (runFull (n - q .steps) 0 lines (q .machine)) m′))
     turn-goes h =

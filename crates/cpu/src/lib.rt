@@ -28,7 +28,7 @@ use stack::serve;
 use std::num::wrapping_add_u64;
 use std::num::wrapping_sub_u64;
 
-// What a turn leaves: the answer of its steps, and the address that the last of them put out first.
+// What a turn leaves: the answer of its steps, and the first address of the last of them.
 pub struct Travelled {
     pub ended: Ended,
     pub first: u16,
@@ -87,7 +87,7 @@ fn walk(start: Registers, count: u64, nmi: bool, bound: u64, memory: &mut [u8]) 
     }
 }
 
-// How far a turn goes at most: where IRQ is low by one step, for after it I may be clear.
+// How far a turn goes at most: if IRQ is low, by one step, for after it I may be clear.
 pub fn reach(irq: bool, bound: u64) -> u64
     ensures { λ r. ⌜ r ≡ reach irq bound ⌝ }
 {
@@ -118,7 +118,7 @@ pub fn fitting(bound: u64, cycles: u64) -> u64
 }
 
 // A turn: a line that is due is served, or steps are made, as many as no line can become due between. The machine that it
-// leaves has the present level of NMI, also where no step was made: then it is the one that was given that counts.
+// leaves has the present level of NMI, also if no step was made: then it is the one that was given that counts.
 pub fn turn(start: Machine, bound: u64, lines: Lines, memory: &mut [u8]) -> Travelled
     requires { ⌜ (length (now memory) ≡ fullMemory) × Calm lines bound × Fits (start .cycles) bound ⌝ }
     ensures { λ r. ⌜ Gives (turning bound lines start) (now (memory .entry)) r (now (memory .exit)) ⌝ }
@@ -136,7 +136,7 @@ pub fn turn(start: Machine, bound: u64, lines: Lines, memory: &mut [u8]) -> Trav
     }
 }
 
-// The machine after a turn: where no step was made, the one before it.
+// The machine after a turn: if no step was made, the one before it.
 fn reached(start: Machine, ended: Ended) -> Machine
     ensures { λ r. ⌜ r ≡ cond (ltb 0 (ended .steps)) (ended .machine) start ⌝ }
 {

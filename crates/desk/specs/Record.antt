@@ -7,7 +7,7 @@ use Rattle.manual.specs.Micro.{Micro, done, _>>=_}
 use Rattle.manual.specs.Stepping.{step}
 use Rattle.desk.specs.declared.StepAnswer.{StepAnswer}
 
--- the reason, and the address that was put out first
+-- the reason, and the first address on the bus
 abbrev pub told : Stepped → StepAnswer
 told q = record { reason = q .reason; first = q .first }
 

@@ -9,7 +9,7 @@ use manual::Machine;
 use manual::Reason;
 use manual::Stepped;
 
-// What a step on a record answers: the reason, and the address that it put out first. The machine is in the record.
+// What a step on a record answers: the reason, and the first address on the bus. The machine is in the record.
 pub struct StepAnswer {
     pub reason: Reason,
     pub first: u16,
@@ -28,7 +28,7 @@ pub fn step_record(machine: &mut Machine, lines: Lines, memory: &mut [u8]) -> St
     }
 }
 
-// The same step where the machine is had by value: it is lent as a record for the one call.
+// The same step if the machine is had by value: it is lent as a record for the one call.
 pub fn step_by_record(mut machine: Machine, lines: Lines, memory: &mut [u8]) -> Stepped
     ensures { λ r. ⌜ Gives (step (length (now (memory .entry))) lines machine) (now (memory .entry)) r (now (memory .exit)) ⌝ }
 {

@@ -1,4 +1,4 @@
--- The address that is put out first (P8).
+-- The first address on the bus (P8).
 use Prim.Native.Nat.{ℕ}
 use mathlib.Core.Path.{_≡_, refl}
 use mathlib.Core.List.{List, [], _∷_}
@@ -18,7 +18,7 @@ use Rattle.manual.specs.Instructions.{applied, modify, perform}
 use Rattle.manual.specs.Stepping.{act, attend, stepFull, step}
 use Rattle.manual.specs.Theorems.Laying.{memory, machine}
 
--- the address that a step puts out first, of a program at 0200 with X and Y
+-- the first address of a step, of a program at 0200 with X and Y
 abbrev firstOf : ℕ → ℕ → List ℕ → ℕ
 firstOf x y bytes = exec (step 65536 idle (machine 0 0x0200 0 x y 0xFF 0x30)) (memory ((0x0200, bytes) ∷ (0x00F0, 0xF0 ∷ 0x10 ∷ []) ∷ [])) .0 .first
 

@@ -59,7 +59,7 @@ rung =
     -- from the count ..608 a line is served; ..609 gives 2, and the last level is kept
     ∷ (nmiLow, leaving (machine 18446744073709551608 0x0234 0 0 0 0xFF 0x30) bells (wasLow (machine 18446744073709551615 0x3000 0 0 0 0xFC 0x34)) 0x01FD 0x20)
     ∷ (bothLow, example (machine 18446744073709551609 0x0234 0 0 0 0xFF 0x30) bells NoCycleRoom (machine 18446744073709551609 0x0234 0 0 0 0xFF 0x30))
-    -- a line is served where the byte at the counter is no opcode
+    -- a line is served if the byte at the counter is no opcode
     ∷ (irqLow, leaving (machine 0 0x0235 0 0 0 0xFF 0x30) bells (machine 7 0x4000 0 0 0 0xFC 0x34) 0x01FE 0x35)
     ∷ []
 

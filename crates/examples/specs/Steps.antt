@@ -41,7 +41,7 @@ outcome lines e = let w = exec (step 65536 lines (e .before)) (memory (e .bytes)
 abbrev pub expected : Example → Reason × Machine × ℕ
 expected e = (e .reason, e .left, e .byte)
 
--- where no byte is looked at, one that stays 0
+-- if no byte is looked at, one that stays 0
 abbrev pub example : Machine → List Laid → Reason → Machine → Example
 example before bytes reason left = record { before = before; bytes = bytes; reason = reason; left = left; place = 0x00F0; byte = 0 }
 

@@ -69,7 +69,7 @@ fn point_out(index: usize, from: Format, verdict: Verdict, text: &[u8], failed: 
     }
 }
 
-// Prints the moved text, which is put into `out`. Nothing is said to be done where it could not be written.
+// Prints the moved text, which is put into `out`. Nothing is said to be done if it could not be written.
 fn print_moved(index: usize, from: Format, text: &[u8], out: &mut [u8], failed: &mut u8) -> u8
     ensures { λ r. ⌜ r ≡ firstOf (now (failed .exit)) (movedFrom from (now (text .entry)) (now (out .entry)) .answer) ⌝ }
 {

@@ -40,7 +40,7 @@ fn fail(shown: &[u8], failed: &mut u8)
     note_failure(FAILED, failed);
 }
 
-// The input that an argument names, which is standard input where that is `-` or missing.
+// The input that an argument names, which is standard input if that is `-` or missing.
 fn known_input(index: usize) -> Known {
     if os::arg_count() <= index || argument_is(index, b"-") {
         return known_file(b"/dev/stdin");

@@ -83,7 +83,7 @@ fn follow(name: &mut [u8], length: usize) -> Step
     }
 }
 
-// Puts the name of the file that an argument leads to, and answers its length, 0 where it is missing, empty or too long.
+// Puts the name of the file that an argument leads to, and answers its length, 0 if it is missing, empty or too long.
 pub(crate) fn put_target(name: &mut [u8], index: usize) -> usize
     ensures { λ r. ⌜ Counts r (now (name .exit)) ⌝ }
 {
@@ -100,7 +100,7 @@ pub(crate) fn put_target(name: &mut [u8], index: usize) -> usize
     size
 }
 
-// Puts the name of a file in a folder, which no other process takes, and answers its length, 0 where it does not fit.
+// Puts the name of a file in a folder, which no other process takes, and answers its length, 0 if it does not fit.
 pub(crate) fn put_beside(out: &mut [u8], folder: &[u8]) -> usize
     ensures { λ r. ⌜ Counts r (now (out .exit)) ⌝ }
 {

@@ -7,7 +7,7 @@ use libc::S_IFREG;
 use libc::types::stat;
 use libc::types::timespec;
 
-// Which file it is, and its mode; a mode of 0 where there is none.
+// Which file it is, and its mode; a mode of 0 if there is none.
 pub(crate) struct Known {
     device: u64,
     inode: u64,
@@ -26,7 +26,7 @@ impl Known {
     }
 }
 
-// Asks for the file at a path, through links. Where there is none, what was known before stays: the system fills nothing in.
+// Asks for the file at a path, through links. If there is none, what was known before stays: the system fills nothing in.
 fn look(path: &[u8; PATH_MAX], before: stat) -> stat
     requires { ⌜ Ended (now path) ⌝ }
 {

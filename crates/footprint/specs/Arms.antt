@@ -35,7 +35,7 @@ abbrev valuesAt : {A : Type 0} → (ℕ → A) → List ℕ → List A
 valuesAt f [] = []
 valuesAt f (k ∷ ks) = f k ∷ valuesAt f ks
 
--- what the arms give and what the function does, where each arm's number stands for a value
+-- what the arms give and what the function does, if each arm's number stands for a value
 abbrev pub given : {A : Type 0} → (ℕ → A) → List Arm → List (List A)
 given value [] = []
 given value (a ∷ arms) = valuesAt (λ k. value (a .1)) (a .0) ∷ given value arms
@@ -51,7 +51,7 @@ right-in f v x (k ∷ l ∷ ks) same one =
     let first : v ≡ f k = cc in
     ⊎-elim (λ (e : x ≡ k). rw e first) (λ (o : OneOf (l ∷ ks) x). right-in f v x (l ∷ ks) (cc) o) one
 
--- Where the arms give what the function does, so does the arm of a number.
+-- If the arms give what the function does, so does the arm of a number.
 pub arm-right : {A : Type 0} (value f : ℕ → A) (arms : List Arm) → given value arms ≡ wanted f arms
     → (i x : ℕ) → OneOf (codesAt arms i) x → value (givenAt arms i) ≡ f x
 arm-right value f [] same i x one = absurd one
@@ -79,7 +79,7 @@ not-in x (a ∷ arms) T rest =
 abbrev pub left : {A : Type 0} → A → (ℕ → A) → List Arm → ℕ → A
 left v f arms x = cond (inArms x arms) v (f x)
 
--- Where that is one value below a bound, a number below it that has no arm gives that value.
+-- If that is one value below a bound, a number below it that has no arm gives that value.
 pub last-right : {A : Type 0} (v : A) (f : ℕ → A) (arms : List Arm) (n : ℕ) → valuesBelow (left v f arms) n ≡ valuesBelow (λ k. v) n
     → (x : ℕ) → x < n → Rest x arms (Unit {0}) → v ≡ f x
 last-right v f arms n same x below rest =

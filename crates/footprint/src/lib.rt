@@ -28,7 +28,7 @@ mod reading; // reading.rt: what is read by a way
 mod storing; // storing.rt: what is stored to by a way
 mod ways; // ways.rt: the way of each opcode
 
-// What the byte at the counter reads, with itself: what a step reads where no line is due.
+// What the byte at the counter reads, with itself: what a step reads if no line is due.
 pub fn reads_quiet(registers: Registers, memory: &[u8]) -> Footprint
     requires { ⌜ length (now memory) ≡ fullMemory ⌝ }
     ensures { λ r. ⌜ r ≡ footprintOf (listedDue Due.Quiet registers (now (memory .entry))) ⌝ }

@@ -17,7 +17,7 @@ use crate::ways::*;
 use memory::join;
 use registers::Registers;
 
-// The places of the three bytes that BRK or a line pushes.
+// The addresses of the three bytes that BRK or a line pushes.
 pub(crate) fn pushes(registers: Registers) -> Footprint
     ensures { λ r. ⌜ r ≡ footprintOf (threePushed registers) ⌝ }
 {

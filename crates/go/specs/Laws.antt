@@ -47,7 +47,7 @@ module _ (goal : Goal) (steps : ℕ) (input image : List ℕ) (size : ℕ) {star
       ap (λ (w : Ended × List ℕ). length (w .1)) (sym g) ∙ exec-length (runFrom start steps (length (take size image))) (take size image)
       ∙ whole-by z (ℕ-discrete (length (take size image)) fullMemory)
 
-  -- What is left of it, where that is 0: the memory stands at the start of the buffer.
+  -- What is left of it, if that is 0: the memory stands at the start of the buffer.
   pub file-of : {file : List ℕ} → endStatus goal q ≡ 0 → file ≡ afterFile goal (q .machine) (take fullMemory (m′ ++ drop size image)) → file ≡ goAfter goal steps input
   unfolding goAfter
   file-of z e =

@@ -25,6 +25,6 @@ fileRun steps file = exec (runFrom (startOf file) steps (length (memoryOf file))
 unfoldable pub goStatus : Goal → ℕ → List ℕ → ℕ
 goStatus goal steps file = endStatus goal (fileRun steps file .0)
 
--- what AFTER holds where the status is 0
+-- what AFTER holds if the status is 0
 unfoldable pub goAfter : Goal → ℕ → List ℕ → List ℕ
 goAfter goal steps file = let w = fileRun steps file in afterFile goal (w .0 .machine) (w .1)

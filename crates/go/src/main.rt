@@ -1,11 +1,11 @@
-// Runs an image for as many steps as are asked for, and keeps what it leaves where it ended as it was meant to.
+// Runs an image for as many steps as are asked for, and keeps what it leaves if it ended as it was meant to.
 //
 // run go STEPS STOP [--] IMAGE AFTER
 //
 // At most STEPS steps are made, a decimal number of 64 bits. STOP is where the program is meant to end, four capital
 // hexadecimal digits; with `-` it is meant to make all STEPS steps, as one that is halted and goes on later. IMAGE is a file
-// of 65,536 bytes, or standard input where it is `-`. The run begins as that of report, and its line goes to standard output;
-// a sentence, with the image's name before it, goes to standard error. AFTER is another file. Where the run ended as it was
+// of 65,536 bytes, or standard input if it is `-`. The run begins as that of report, and its line goes to standard output;
+// a sentence, with the image's name before it, goes to standard error. AFTER is another file. If the run ended as it was
 // meant to, the memory after it is written there, whole and at once; otherwise a file of that name is left as it was.
 // With `-` AFTER is a halted run: the memory, and then the line of the state, as trace writes it. Such a file is an IMAGE
 // too: the run goes on from that state, so two runs are one (the theorem `lunch-of-files`). Its own steps alone are counted,
@@ -70,7 +70,7 @@ fn print_line(ended: Ended, failed: &mut u8)
     write_output(&text[..size], failed);
 }
 
-// Keeps a file that a run left. `input` is what was read: only where its status is 0, and only what the definition says.
+// Keeps a file that a run left. `input` is what was read: only if its status is 0, and only what the definition says.
 fn keep(
     after: usize,
     goal: Goal,

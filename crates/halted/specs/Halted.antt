@@ -33,7 +33,7 @@ isHalted file = endsAt (length file) (stateIn file)
 
 -- ---- what a file opens to
 
--- from the state, where that line ends the file
+-- from the state, if that line ends the file
 abbrev pub startBy : ℕ → Line → Start
 startBy size (State q) = cond (eqb (q .next) size) (From (q .machine)) Image
 startBy size Malformed = Image

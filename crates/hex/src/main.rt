@@ -2,7 +2,7 @@
 //
 // run hex [--] [TAPE]
 //
-// The tape is a file of fewer than 1,048,576 characters, or standard input where it is `-` or none is named. Each data record
+// The tape is a file of fewer than 1,048,576 characters, or standard input if it is `-` or none is named. Each data record
 // keeps its address and its data, CR LF stands after each record, and the end record is `:00000001FF`. A tape that is refused
 // is not begun. A sentence on standard error says what was found, with the tape's name before it; of a bad tape, after how
 // many good records and how many characters the first bad one begins.

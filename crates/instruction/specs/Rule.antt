@@ -1,4 +1,4 @@
--- A rule of the opcode table: what a test computed over all the rows shows holds of every entry that an opcode has.
+-- A rule of the opcode table: what a test computed over all the rows shows holds of every row that an opcode has.
 use Prim.Native.Nat.{ℕ}
 use mathlib.Core.Path.{_≡_, subst}
 use mathlib.Core.Bool.{Bool, true, false, cond, _&&_}

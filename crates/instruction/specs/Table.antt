@@ -17,7 +17,7 @@ use Rattle.instruction.specs.declared.Entry.{Entry}
 use Rattle.instruction.specs.declared.Decoded.{Decoded}
 use Rattle.instruction.specs.declared.Decoded.the-variants.{Defined, Undefined}
 
--- The most cycles that may be added to an entry's: 1 where a read crosses a page, and 2 for a branch that is taken to another page.
+-- The most cycles that may be added to a row's: 1 if a read crosses a page, and 2 for a branch that is taken to another page.
 abbrev pub mostExtra : Instruction → ℕ
 mostExtra (Read o) = 1
 mostExtra (Store o) = 0
@@ -34,7 +34,7 @@ mostExtra PLP = 0
 mostExtra RTI = 0
 mostExtra RTS = 0
 
--- What holds of an entry: 2 to 7 cycles, at most 7 with all that may be added, and 1 to 3 bytes.
+-- What holds of a row: 2 to 7 cycles, at most 7 with all that may be added, and 1 to 3 bytes.
 pub record Ruled (e : Entry) : Type 0 where
   pub cycles-least : 2 ≤ e .cycles
   pub cycles-most : e .cycles ≤ 7
@@ -58,7 +58,7 @@ pub record TableRules : Type 0 where
 
 -- ---- the test
 
--- an entry keeps the rules
+-- a row keeps the rules
 abbrev passes : Entry → Bool
 passes e =
     leb 2 (e .cycles)

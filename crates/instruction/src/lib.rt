@@ -127,7 +127,7 @@ impl AddressingMode {
     }
 }
 
-// One entry of the opcode table.
+// One row of the opcode table.
 pub struct Entry {
     pub instruction: Instruction,
     pub mode: AddressingMode,

@@ -22,7 +22,7 @@ pub not-among : (x : ℕ) (ks : List ℕ) → NoneOf x ks → among x ks ≡ fal
 not-among x [] none = refl
 not-among x (k ∷ ks) none = simp (ne-eqb x k (none .1)) (not-among x ks (none .0))
 
--- where each number below a bound has an arm
+-- if each number below a bound has an arm
 abbrev pub NoneBelow : ℕ → ℕ → Type 0
 NoneBelow bound x = NoneOf x (valuesBelow (λ k. k) bound)
 

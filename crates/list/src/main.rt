@@ -2,7 +2,7 @@
 //
 // run list FIRST LAST [--] [IMAGE]
 //
-// An address is four capital hexadecimal digits. The image is a file of 65,536 bytes, or standard input where it is `-` or
+// An address is four capital hexadecimal digits. The image is a file of 65,536 bytes, or standard input if it is `-` or
 // none is named; after `--` its name may begin with `-`. A listing that is refused is not begun; a sentence on standard error
 // says why, with the image's name before it.
 //
@@ -34,14 +34,14 @@ struct Told {
     status: u8,
 }
 
-// Room for the listing of 18,724 bytes and, where not all of them are lines of their own, of more.
+// Room for the listing of 18,724 bytes and, if not all of them are lines of their own, of more.
 fn text_buffer() -> [u8; 262144]
     ensures { λ r. ⌜ 262144 ≡ length r ⌝ }
 {
     [0; 262144]
 }
 
-// What the answer means, where nothing was listed.
+// What the answer means, if nothing was listed.
 fn explain(index: usize, answer: u8, image: &[u8], failed: &mut u8)
     ensures { λ r. ⌜ FailureStays (now (failed .entry)) (now (failed .exit)) ⌝ }
 {

@@ -1,10 +1,10 @@
-// Lays a paper tape or Intel HEX onto an image, and keeps the memory after it where all of it is good.
+// Lays a paper tape or Intel HEX onto an image, and keeps the memory after it if all of it is good.
 //
 // run load [--onto IMAGE] [--] TAPE AFTER
 //
-// TAPE is a file of fewer than 1,048,576 characters, or standard input where it is `-`. It is Intel HEX where its first record
-// begins with `:`, and otherwise it is read as a tape. It is laid onto IMAGE, a file of 65,536 bytes, or onto zeros where none
-// is named. AFTER is another file. The memory is written there, whole and at once, where all of TAPE is good; otherwise a file
+// TAPE is a file of fewer than 1,048,576 characters, or standard input if it is `-`. It is Intel HEX if its first record
+// begins with `:`, and otherwise it is read as a tape. It is laid onto IMAGE, a file of 65,536 bytes, or onto zeros if none
+// is named. AFTER is another file. The memory is written there, whole and at once, if all of TAPE is good; otherwise a file
 // of that name is left as it was. A sentence on standard error says what was found, with the tape's name before it; of a bad
 // one, after how many good records and how many characters the first bad record begins.
 //
@@ -43,7 +43,7 @@ use tape_input::read_tape_input;
 use tape_input::say_verdict;
 use tapes::tape_buffer;
 
-// The argument that names the image, where there is one.
+// The argument that names the image, if there is one.
 const IMAGE: usize = 2;
 
 // The arguments that name the other files.
@@ -68,7 +68,7 @@ fn explain(tape: usize, format: Format, verdict: Verdict, image: &[u8], failed: 
     say_verdict(tape, format, verdict, failed);
 }
 
-// Keeps a memory. `tape` was laid onto `before`: only where all of it is good, and only what the definition says.
+// Keeps a memory. `tape` was laid onto `before`: only if all of it is good, and only what the definition says.
 fn keep(after: usize, tape: &[u8], before: &[u8], answer: u8, memory: &[u8], failed: &mut u8)
     requires { ⌜ (answer ≡ 0) × (readText (now tape) (now before) .answer ≡ 0) × (now memory ≡ readText (now tape) (now before) .memory) ⌝ }
     requires { ⌜ now failed ≡ 0 ⌝ }
@@ -77,7 +77,7 @@ fn keep(after: usize, tape: &[u8], before: &[u8], answer: u8, memory: &[u8], fai
     replace(after, answer, memory, failed);
 }
 
-// Lays a tape onto an image, of which `before` is a copy, and keeps the memory only where the whole tape is good.
+// Lays a tape onto an image, of which `before` is a copy, and keeps the memory only if the whole tape is good.
 fn load_onto(names: Names, tape: &[u8], before: &[u8], image: &mut [u8], failed: &mut u8) -> u8
     requires { ⌜ now image ≡ now before ⌝ }
     ensures { λ r. ⌜ r ≡ firstOf (now (failed .exit)) (readText (now (tape .entry)) (now (before .entry)) .answer) ⌝ }

@@ -10,12 +10,12 @@ use Rattle.intelhex.specs.IntelHex.{readHex}
 use Rattle.loading.specs.declared.Format.{Format}
 use Rattle.loading.specs.declared.Format.the-variants.{Tape, Hex}
 
--- the first character that is no separator, 0 where there is none
+-- the first character that is no separator, 0 if there is none
 abbrev pub firstMark : List ℕ → ℕ
 firstMark [] = 0
 firstMark (c ∷ s) = cond (separator c) (firstMark s) c
 
--- HEX where that is `:`, the character 58. Any other text is read as a tape, which refuses what has no `;` there.
+-- HEX if that is `:`, the character 58. Any other text is read as a tape, which refuses what has no `;` there.
 abbrev pub formatOf : List ℕ → Format
 formatOf s = cond (eqb (firstMark s) 58) Hex Tape
 

@@ -26,7 +26,7 @@ pub enum Format {
 }
 
 // What a text was found to be: the answer, how many good records stand before the first bad one, and where that begins, the
-// text's length where there is none.
+// text's length if there is none.
 pub struct Verdict {
     pub answer: u8,
     pub good: u64,

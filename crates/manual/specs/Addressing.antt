@@ -25,7 +25,7 @@ word p q = do
 abbrev pub pointer : ℕ → ℕ → Micro ℕ
 pointer high b = word (joined high b) (joined high (lowByte (b + 1)))
 
--- an address that is not counted from another is put out at once
+-- an address that is not counted from another is on the bus at once
 abbrev pub plain : ℕ → Target
 plain p = record { address = p; crossed = false; first = p }
 
@@ -33,7 +33,7 @@ plain p = record { address = p; crossed = false; first = p }
 abbrev pub differs : ℕ → ℕ → Bool
 differs base p = not (eqb (page base) (page p))
 
--- an index is added to the low byte of the base first: until the carry has reached the high byte, the part puts out the base's page
+-- an index is added to the low byte of the base first: until the carry has reached the high byte, the bus has the base's page
 abbrev pub indexed : ℕ → ℕ → Target
 indexed base index =
     let p = addressOf (base + index) in

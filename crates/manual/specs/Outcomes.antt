@@ -9,7 +9,7 @@ use Rattle.manual.specs.declared.Ended.{Ended}
 use Rattle.manual.specs.declared.Reason.{Reason}
 use Rattle.manual.specs.declared.Reason.the-variants.{Made, MemoryNotFull, NoCycleRoom, NotAnOpcode, BoundTooHigh}
 
--- the address that an instruction put out first, the registers, and the cycles beyond the base
+-- the first address of an instruction on the bus, the registers, and the cycles beyond the base
 abbrev pub leavesAt : ℕ → Registers → ℕ → Effect
 leavesAt first r extra = record { registers = r; extra = extra; first = first }
 
@@ -40,7 +40,7 @@ isMade NoCycleRoom = false
 isMade NotAnOpcode = false
 isMade BoundTooHigh = false
 
--- what a step answers, the address that it put out first, and the machine that it leaves
+-- what a step answers, its first address, and the machine that it leaves
 abbrev pub stepped : Reason → ℕ → Machine → Stepped
 stepped reason first s = record { reason = reason; first = first; machine = s }
 

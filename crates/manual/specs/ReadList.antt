@@ -103,7 +103,7 @@ abbrev pub listedEntry : Decoded → Registers → List ℕ → List ℕ
 listedEntry (Defined e) r m = listed (e .instruction) (e .mode) r m
 listedEntry Undefined r m = []
 
--- the vector of a line that is served, or the opcode and what its entry lists
+-- the vector of a line that is served, or the opcode and what its row lists
 abbrev pub listedDue : Due → Registers → List ℕ → List ℕ
 listedDue (Through vector) r m = vector ∷ (vector + 1) ∷ []
 listedDue Quiet r m = r .counter ∷ listedEntry (decoded (getD m (r .counter) 0)) r m

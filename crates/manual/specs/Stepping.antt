@@ -28,12 +28,12 @@ highestCount = 18446744073709551608
 abbrev pub highestBound : ℕ
 highestBound = 1000000
 
--- a step that is made, by the address that it put out first, the registers and the cycles that it took: the present level of NMI becomes
+-- a step that is made, by its first address on the bus, the registers and the cycles that it took: the present level of NMI becomes
 -- the last one
 abbrev pub made : Lines → Machine → ℕ → Registers → ℕ → Stepped
 made lines s first r cycles = stepped Made first (machineOf r (s .cycles + cycles) (lines .nmi))
 
--- what an opcode's entry does: its cycles and the extra ones are added
+-- what an opcode's row does: its cycles and the extra ones are added
 unfoldable pub act : Decoded → Lines → Machine → Micro Stepped
 act (Defined entry) lines s = do
   effect ← perform (entry .instruction) (entry .mode) (s .registers)

@@ -16,14 +16,14 @@ pub const NMI_VECTOR: u16 = 0xFFFA;
 
 pub const IRQ_VECTOR: u16 = 0xFFFE;
 
-// What a step changes besides memory: the registers, the cycle count, and the last level of NMI, true where it was high.
+// What a step changes besides memory: the registers, the cycle count, and the last level of NMI, true if it was high.
 pub struct Machine {
     pub registers: Registers,
     pub cycles: u64,
     pub nmi: bool,
 }
 
-// The present levels of the interrupt lines, true where one is high. They hold for a whole step or run.
+// The present levels of the interrupt lines, true if one is high. They hold for a whole step or run.
 pub struct Lines {
     pub irq: bool,
     pub nmi: bool,
@@ -36,7 +36,7 @@ pub enum Due {
 }
 
 // Where an addressing mode leads; whether that is another page than the one it was counted from, the page of an indexed
-// base, or of the counter past a branch; and the address that is put out first, before a carry reaches the high byte.
+// base, or of the counter past a branch; and the first address on the bus, before a carry reaches the high byte.
 pub struct Target {
     pub address: u16,
     pub crossed: bool,
@@ -56,7 +56,7 @@ pub struct Digit {
     pub over: bool,
 }
 
-// What an instruction leaves: the registers, the cycles beyond its base, and the address that it put out first.
+// What an instruction leaves: the registers, the cycles beyond its base, and its first address on the bus.
 pub struct Effect {
     pub registers: Registers,
     pub extra: u8,
@@ -72,7 +72,7 @@ pub enum Reason {
     BoundTooHigh,
 }
 
-// What a step answers, the address that it put out first, and the machine that it leaves: in a refusal 0000, and the one
+// What a step answers, its first address on the bus, and the machine that it leaves: in a refusal 0000, and the one
 // that was given.
 pub struct Stepped {
     pub reason: Reason,
@@ -87,7 +87,7 @@ pub struct Ended {
     pub machine: Machine,
 }
 
-// What an instruction leaves that put out an address.
+// What an instruction leaves that has a first address.
 pub fn leaves_at(first: u16, registers: Registers, extra: u8) -> Effect
     ensures { λ r. ⌜ r ≡ leavesAt first registers extra ⌝ }
 {

@@ -1,4 +1,4 @@
-// The operations and the addressing modes by number: what each number stands for. The opcodes' lines name them so.
+// The operations and the addressing modes by number: what each number stands for. The rows name them so.
 ghost use mathlib.Core.Path.{_≡_};
 ghost use Rattle.meaning.specs.Operations.{modeAt, operationAt};
 ghost use Rattle.meaning.specs.Storing.{storingAt};
@@ -13,7 +13,7 @@ use number::*;
 
 pub mod number; // number.rt: the numbers
 
-// The operation of a number, of those that can store; NOP for any other number. It stands by itself, because the lines that
+// The operation of a number, of those that can store; NOP for any other number. It stands by itself, because the rows that
 // store ask for these alone.
 pub fn storing_at(number: u8) -> Instruction
     ensures { λ r. ⌜ r ≡ storingAt number ⌝ }

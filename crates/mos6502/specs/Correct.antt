@@ -43,7 +43,7 @@ module _ (registers cycles lines : ℕ) where
     -- refused step returns its registers and cycle count and changes no byte; a stopped run gives the state after the steps it made, and
     -- their number.
 
-    -- The table for a step: each answer is given exactly when its line says.
+    -- The table for a step: each answer is given exactly when the table says.
     pub record StepAnswered (v : StepNumbers) (m′ : List ℕ) : Type 0 where
       -- a line is served, or the opcode is one of the 151
       pub zero : (v .answer ≡ 0) ↔ ((length m ≡ fullMemory) × (Served levels given ⊎ Ready levels given m))
@@ -68,7 +68,7 @@ module _ (registers cycles lines : ℕ) where
       pub no-other : v .answer ≤ 4
       -- the state after the steps that it made, and their number
       pub made : Leads (v .steps) levels given m (left v) m′
-      -- with 1 and 4 none is made, and where none is made nothing is changed
+      -- with 1 and 4 none is made, and if none is made nothing is changed
       pub none : (v .answer ≡ 1) ⊎ (v .answer ≡ 4) → v .steps ≡ 0
       pub unchanged : v .steps ≡ 0 → (v .registers ≡ registers) × (v .cycles ≡ cycles) × (m′ ≡ m)
 

@@ -28,7 +28,7 @@ use Rattle.cycles.specs.Lifting.{lift, lifted, lowered, lifted-least, lifted-sp
 use Rattle.numbers.specs.Machines.{machineFrom, linesFrom, registersAfter, cyclesAfter}
 use Rattle.mos6502.specs.Numbers.{StepNumbers, RunNumbers, stepNumbers, runNumbers, stepOnNumbers, runOnNumbers, longRunOnNumbers, runCyclesOnNumbers, runFullOnNumbers, turnOnNumbers}
 
--- a run of one has made a step exactly where it answers so
+-- a run of one has made a step exactly if it answers so
 one-made : {lines : Lines} {s : Machine} {m : List ℕ} {q : Ended} {m′ : List ℕ} → Ends 1 lines s m q m′ → isMade (q .reason) ≡ ltb 0 (q .steps)
 one-made (all-made h) = refl
 one-made (no-cycle-room {k} l h r) = sym (le-ltb 0 k (omega arith))
@@ -56,7 +56,7 @@ numberOf s = packed (s .registers) (s .nmi)
 abbrev pub countOf : Machine → ℕ
 countOf s = s .cycles
 
--- where no step was made the machine does not matter
+-- if no step was made the machine does not matter
 picked : (f : Machine → ℕ) (t : Bool) (w s : Machine) (v : ℕ) → cond t (f (cond t w s)) v ≡ cond t (f w) v
 picked f true w s v = refl
 picked f false w s v = refl

@@ -11,7 +11,7 @@ use Rattle.manual.specs.Stepping.{step, runFull, run, longRun, runCycles}
 use Rattle.numbers.specs.Machines.{machineFrom, linesFrom, registersAfter, cyclesAfter}
 use Rattle.cpu.specs.Turning.{turning, settled}
 
--- what comes back of a step: the answer, the address that it put out first, and the two numbers after it
+-- what comes back of a step: the answer, the first address on the bus, and the two numbers after it
 pub record StepNumbers : Type 0 where
   pub answer : ℕ
   pub first : ℕ

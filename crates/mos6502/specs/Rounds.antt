@@ -20,7 +20,7 @@ use Rattle.numbers.specs.Machines.{machineFrom, linesFrom}
 use Rattle.mos6502.specs.Numbers.{RunNumbers, runNumbers, turnOnNumbers, runFullOnNumbers}
 use Rattle.mos6502.specs.Laws.{zero-made, other-refused, numberOf, countOf, onward, turn-of, run-gives}
 
--- Of a run of `bound` steps `total` are made: what is left of it goes on from the numbers, which are as they were given where none is.
+-- Of a run of `bound` steps `total` are made: what is left of it goes on from the numbers, which are as they were given if none is.
 pub record Round (bound lines registers₀ cycles₀ : ℕ) (m₀ : List ℕ) (total registers cycles : ℕ) (m : List ℕ) : Type 0 where
   pub rest : exec (runFull bound 0 (linesFrom lines) (machineFrom registers₀ cycles₀)) m₀
       ≡ added total (exec (runFull (bound - total) 0 (linesFrom lines) (machineFrom registers cycles)) m)
@@ -42,7 +42,7 @@ module _ (bound lines registers₀ cycles₀ : ℕ) (m₀ : List ℕ) (total reg
   abbrev machine : Machine
   machine = machineFrom registers cycles
 
-  -- where all steps are made
+  -- if all steps are made
   pub at-last : total ≡ bound
       → Gives (runFullOnNumbers bound lines registers₀ cycles₀) m₀ (record { answer = 0; steps = total; registers = registers; cycles = cycles }) m
   at-last e =

@@ -94,7 +94,7 @@ pub extern "C" fn mos6502_counter(registers: u64) -> u16
     unpack(registers).counter
 }
 
-// The last level of NMI of a number: 1 where it was high, 0 where it was low.
+// The last level of NMI of a number: 1 if it was high, 0 if it was low.
 #[no_mangle]
 pub extern "C" fn mos6502_nmi(registers: u64) -> u8
     ensures { λ r. ⌜ r ≡ bit (unpackedNmi registers) ⌝ }
@@ -102,7 +102,7 @@ pub extern "C" fn mos6502_nmi(registers: u64) -> u8
     flag(unpack_nmi(registers))
 }
 
-// A turn on numbers. The numbers are again those of the machine that is left. It drops the address that was put out first, so that
+// A turn on numbers. The numbers are again those of the machine that is left. It drops the first address on the bus, so that
 // the compiler leaves it out of the loop.
 fn advance(
     registers: &mut u64,
@@ -203,7 +203,7 @@ fn go_on(
     0
 }
 
-// A run of at most `bound` steps. Where it makes none, both numbers stay as they were.
+// A run of at most `bound` steps. If it makes none, both numbers stay as they were.
 #[no_mangle]
 pub extern "C" fn mos6502_run(
     registers: &mut u64,
@@ -229,7 +229,7 @@ pub extern "C" fn mos6502_run(
     go_on(registers, cycles, steps, bound, lines, memory)
 }
 
-// A run of any number of steps. Where it makes none, both numbers stay as they were.
+// A run of any number of steps. If it makes none, both numbers stay as they were.
 #[no_mangle]
 pub extern "C" fn mos6502_long_run(
     registers: &mut u64,

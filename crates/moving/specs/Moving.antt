@@ -15,7 +15,7 @@ use Rattle.loading.specs.declared.Format.the-variants.{Tape, Hex}
 use Rattle.moving.specs.declared.Moved.{Moved}
 
 -- the answer, the length of the new text, how many good records stand before the first bad one of the given text and where that begins, its
--- length where there is none, and the buffer with the new text at its start
+-- length if there is none, and the buffer with the new text at its start
 pub record Outcome : Type 0 where
   pub answer : ℕ
   pub size : ℕ

@@ -17,7 +17,7 @@ use Rattle.loading.specs.Going.{Stops, Comes}
 use Rattle.moving.specs.declared.Moved.{Moved}
 use Rattle.moving.specs.Lines.{recordIn, textFrom, lineOf, sumFrom, its-line, accepted-records}
 
--- the verdict, and the whole text where that is good
+-- the verdict, and the whole text if that is good
 pub record Passed (to : Format) (s : List ℕ) (c : Contents) (l l′ : List ℕ) (p : Moved) : Type 0 where
   pub says : p .verdict ≡ verdictOf s c
   pub writes : c .answer ≡ 0 → Wrote l 0 (textFrom to 0 (c .records)) l′ (p .size)
@@ -68,7 +68,7 @@ module _ {f to : Format} {X : Contents} {s l₀ l : List ℕ} {at size before : 
       one-moved u (record { first = w; bytes = valuesAt n (drop digits s) 0 }) (k .goes-on)
       (rw (its-line to n w (drop digits s) (valuesAt n (drop digits s) 0) (k .read)) at wrote)
 
--- no more than 65,535 records were written where all is good
+-- no more than 65,535 records were written if all is good
 pub few-moved : (f : Format) (s : List ℕ) {to : Format} {l₀ l : List ℕ} {size before : ℕ} {v : Verdict}
     → Finished to s (contentsOf f s) l₀ l size before v → v .answer ≡ 0 → before < 65536
 few-moved f s e z =

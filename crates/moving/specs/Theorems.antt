@@ -78,7 +78,7 @@ module _ (s : List ℕ) (c : Contents) (t buffer : List ℕ) where
       by-answer true g = by-room (ltb (length buffer) (length t)) g
       by-answer false g = (refl, refl)
 
-  -- a good text is moved where the buffer holds the new one, and a bad one is refused with its reason before that is looked at
+  -- a good text is moved if the buffer holds the new one, and a bad one is refused with its reason before that is looked at
   good-moved : c .answer ≡ 0 → length t ≤ length buffer → movedAs s c t buffer .answer ≡ 0
   good-moved z h = rw (eq-eqb (c .answer) 0 z, le-ltb (length buffer) (length t) h)
 
@@ -86,7 +86,7 @@ module _ (s : List ℕ) (c : Contents) (t buffer : List ℕ) where
   bad-unmoved h = rw (ne-eqb (c .answer) 0 h)
 
 module _ (s buffer : List ℕ) where
-  -- A good text is not refused where there is room.
+  -- A good text is not refused if there is room.
   pub tape-moved : (rs : List Stretch) → Tape rs s → length (hexText 0 rs) ≤ length buffer → tapeToHex s buffer .answer ≡ 0
   unfolding tapeToHex
   tape-moved rs t h =

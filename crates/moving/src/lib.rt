@@ -20,7 +20,7 @@ use text::put_hex4;
 use text::put_text;
 
 // What the given text was found to be, and the length of the new one at the start of the buffer. The verdict has the answer
-// 10 where the given text is good and the buffer is too short.
+// 10 if the given text is good and the buffer is too short.
 pub struct Moved {
     pub verdict: Verdict,
     pub size: usize,

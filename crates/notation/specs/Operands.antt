@@ -1,4 +1,4 @@
--- How the manual writes an operand (chapters 5 and 6), with the space before it: nothing where there is none.
+-- How the manual writes an operand (chapters 5 and 6), with the space before it: nothing if there is none.
 use Prim.Native.Nat.{ℕ, _+_}
 use mathlib.Core.List.{List, [], _++_}
 use lib.ListN.{getD}

@@ -10,11 +10,11 @@ use Rattle.manual.specs.Outcomes.{machineOf}
 abbrev pub machineFrom : ℕ → ℕ → Machine
 machineFrom registers cycles = machineOf (unpacked registers) cycles (unpackedNmi registers)
 
--- bit 0 is set where NMI is low, bit 1 where IRQ is: 0 for idle lines
+-- bit 0 is set if NMI is low, bit 1 if IRQ is: 0 for idle lines
 abbrev pub linesFrom : ℕ → Lines
 linesFrom lines = record { irq = not (bitAt 1 lines); nmi = not (bitAt 0 lines) }
 
--- the two numbers are the machine's where a step was made, and otherwise as they were given
+-- the two numbers are the machine's if a step was made, and otherwise as they were given
 abbrev pub registersAfter : Bool → Machine → ℕ → ℕ
 registersAfter made s registers = cond made (packed (s .registers) (s .nmi)) registers
 

@@ -15,7 +15,7 @@ pub fn machine_from(registers: u64, cycles: u64) -> Machine
     Machine::new(unpack(registers), cycles, unpack_nmi(registers))
 }
 
-// The levels of the lines: bit 0 is set where NMI is low, bit 1 where IRQ is, and the others do not matter.
+// The levels of the lines: bit 0 is set if NMI is low, bit 1 if IRQ is, and the others do not matter.
 pub fn lines_from(lines: u8) -> Lines
     ensures { λ r. ⌜ r ≡ linesFrom lines ⌝ }
 {
@@ -25,7 +25,7 @@ pub fn lines_from(lines: u8) -> Lines
     }
 }
 
-// The machine as the two numbers, where a step was made.
+// The machine as the two numbers, if a step was made.
 pub fn hand_back(made: bool, machine: Machine, registers: &mut u64, cycles: &mut u64)
     ensures { λ r. ⌜ now (registers .exit) ≡ registersAfter made machine (now (registers .entry)) ⌝ }
     ensures { λ r. ⌜ now (cycles .exit) ≡ cyclesAfter made machine (now (cycles .entry)) ⌝ }

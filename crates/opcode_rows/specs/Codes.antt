@@ -1,4 +1,4 @@
--- The opcodes that have a line, from the last: what the last arm knows that the opcode is not.
+-- The opcodes that have a row, from the last: what the last arm knows that the opcode is not.
 use Prim.Native.Nat.{ℕ, _<_}
 use mathlib.Core.Path.{refl}
 use mathlib.Core.List.{List, [], _∷_}

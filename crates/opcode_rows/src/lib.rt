@@ -1,4 +1,4 @@
-// The opcodes: a line for each of the 151, with its operation, its addressing mode and its base cycles. Where a line is called all
+// The opcodes: a row for each of the 151, with its operation, its addressing mode and its base cycles. In a row all
 // three are fixed, and the compiler leaves out of it all that the opcode does not do. It makes one jump of the `match`.
 ghost use mathlib.Core.Path.{_≡_};
 ghost use lib.ListN.{length};
@@ -16,7 +16,7 @@ use rows::keeps;
 use rows::stores;
 use rows::subtracts;
 
-// The opcode's line.
+// The opcode's row.
 fn line(opcode: u8, registers: Registers, memory: &mut [u8]) -> Row
     requires { ⌜ length (now memory) ≡ fullMemory ⌝ }
     ensures { λ r. ⌜ Gives (dispatched (decoded opcode) registers) (now (memory .entry)) (finished r) (now (memory .exit)) ⌝ }

@@ -11,7 +11,7 @@ mod names; // names.rt: the names of the operations
 
 pub use names::name_of;
 
-// The operation of each opcode, by number; 255 where the opcode is not defined.
+// The operation of each opcode, by number; 255 if the opcode is not defined.
 const OPERATIONS: [u8; 256] = *b"\
     \x0A\x22\xFF\xFF\xFF\x22\x02\xFF\x24\x22\x02\xFF\xFF\x22\x02\xFF\
     \x09\x22\xFF\xFF\xFF\x22\x02\xFF\x0D\x22\xFF\xFF\xFF\x22\x02\xFF\

@@ -72,7 +72,7 @@ fn names() -> [[u8; 3]; 56]
     NAMES
 }
 
-// The name of an opcode's operation, and ??? where the opcode is not defined.
+// The name of an opcode's operation, and ??? if the opcode is not defined.
 pub fn name_of(opcode: u8) -> [u8; 3]
     ensures { λ r. ⌜ r ≡ nameOf (decoded opcode) ⌝ }
 {

@@ -5,7 +5,7 @@ use Rattle.registers.specs.declared.Registers.{Registers}
 use Rattle.registers.specs.State.{registersOf}
 use Rattle.registers.specs.StatusByte.{bit, bitAt, pushedByte, pulledStatus}
 
--- A, X, Y, S and the status as PHP pushes it, a byte each from the lowest on, then the counter, and bit 56 where the level was low: in a number
+-- A, X, Y, S and the status as PHP pushes it, a byte each from the lowest on, then the counter, and bit 56 if the level was low: in a number
 -- of registers alone it is high, as it is at first
 unfoldable pub packed : Registers → Bool → ℕ
 packed r nmi =

@@ -5,7 +5,7 @@ use registers::Registers;
 use registers::Status;
 use registers::flag;
 
-// A, X, Y, S and the status as PHP pushes it in a byte each from the lowest on, then the counter, and bit 56 where the level
+// A, X, Y, S and the status as PHP pushes it in a byte each from the lowest on, then the counter, and bit 56 if the level
 // was low. Unpacked again it is the same.
 pub fn pack(registers: Registers, nmi: bool) -> u64
     ensures { λ r. ⌜ r ≡ packed registers nmi ⌝ }
@@ -34,7 +34,7 @@ pub fn unpack(number: u64) -> Registers
     )
 }
 
-// The last level of NMI of any number, true where it was high.
+// The last level of NMI of any number, true if it was high.
 pub fn unpack_nmi(number: u64) -> bool
     ensures { λ r. ⌜ r ≡ unpackedNmi number ⌝ }
 {

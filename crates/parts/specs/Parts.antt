@@ -76,7 +76,7 @@ module _ (size k : ℕ) (s : Machine) (m : List ℕ) {q : Ended} {m′ : List �
 
 -- ---- the loop
 
--- what the whole run gives, where j steps are made and n are left from here
+-- what the whole run gives, if j steps are made and n are left from here
 abbrev pub Whole : Ended × List ℕ → ℕ → ℕ → ℕ → Machine → List ℕ → Type 0
 Whole w j size n s m = w ≡ added j (exec (longRun size n idle s) m)
 

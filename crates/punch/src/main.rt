@@ -2,7 +2,7 @@
 //
 // run punch FIRST LAST [--] [IMAGE]
 //
-// An address is four capital hexadecimal digits. The image is a file of 65,536 bytes, or standard input where it is `-` or
+// An address is four capital hexadecimal digits. The image is a file of 65,536 bytes, or standard input if it is `-` or
 // none is named. A record has 24 bytes, the last one 1 to 24, and CR LF stands after each. A tape that is refused is not
 // begun; a sentence on standard error says why, with the image's name before it.
 //
@@ -35,7 +35,7 @@ struct Done {
     status: u8,
 }
 
-// What the answer means, where nothing was punched. The longest tape has 166,588 characters, so that there is always room.
+// What the answer means, if nothing was punched. The longest tape has 166,588 characters, so that there is always room.
 fn explain(index: usize, answer: u8, image: &[u8], failed: &mut u8)
     ensures { λ r. ⌜ FailureStays (now (failed .entry)) (now (failed .exit)) ⌝ }
 {

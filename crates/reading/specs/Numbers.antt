@@ -19,7 +19,7 @@ nowhere = 18446744073709551615
 abbrev pub digits : List ℕ
 digits = characters "0123456789ABCDEF"
 
--- where a character first stands in a list; the list's length where it does not
+-- where a character first stands in a list; the list's length if it does not
 abbrev pub placeIn : List ℕ → ℕ → ℕ
 placeIn [] b = 0
 placeIn (d ∷ ds) b = cond (eqb b d) 0 (suc (placeIn ds b))

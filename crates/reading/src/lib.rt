@@ -1,6 +1,6 @@
 // Readers of a text: digits, the numbers made of them, and marks.
 //
-// Every reader is handed a text and a place in it, and answers what it read and the next place. Where the text has
+// Every reader is handed a text and a place in it, and answers what it read and the next place. If the text has
 // something else that place is NOWHERE, at which every reader fails again: a caller tests for it once, at the end.
 ghost use mathlib.Core.Path.{_≡_};
 ghost use Prim.Native.Nat.{_≤_, _<_};

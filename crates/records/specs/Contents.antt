@@ -19,7 +19,7 @@ pub data Item : Type 0 where
   finish : Item
   bad : ℕ → Item
 
--- the data records up to the first bad record, and its reason, 0 where none is bad; how many good records stand before it, the end record
+-- the data records up to the first bad record, and its reason, 0 if none is bad; how many good records stand before it, the end record
 -- counted too, and how many characters there are from it on
 pub record Contents : Type 0 where
   pub records : List Stretch
@@ -59,7 +59,7 @@ laid [] m = m
 laid (r ∷ rs) m = laid rs (sets m (r .first) (r .bytes))
 
 -- what a reader answers, and the memory that it leaves: the answer, how many good records stand before the first bad one, and where that
--- begins, the text's length where there is none
+-- begins, the text's length if there is none
 pub record Loaded : Type 0 where
   pub answer : ℕ
   pub good : ℕ

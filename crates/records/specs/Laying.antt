@@ -1,4 +1,4 @@
--- Records laid onto a memory: an address has the byte of the last record that covers it, and its own where none does.
+-- Records laid onto a memory: an address has the byte of the last record that covers it, and its own if none does.
 use Prim.Native.Nat.{ℕ, zero, suc, _+_, _<_, _≤_}
 use mathlib.Core.Path.{_≡_, refl, _∙_}
 use mathlib.Core.List.{List, [], _∷_, _++_}

@@ -30,7 +30,7 @@ abbrev pub counted : Option ℕ → List ℕ → Option (List ℕ)
 counted none s = none
 counted (some n) s = bytesOf (n + 5) s
 
--- all bytes of the record with which a text begins, and none where it is malformed or cut short
+-- all bytes of the record with which a text begins, and none if it is malformed or cut short
 unfoldable pub recordOf : ℕ → List ℕ → Option (List ℕ)
 recordOf mark [] = none
 recordOf mark (c ∷ s) = cond (eqb c mark) (counted (byteOf s) s) none

@@ -37,7 +37,7 @@ pub enum Item {
     Bad(u8),
 }
 
-// The text from a place on; nothing where that lies past the end.
+// The text from a place on; nothing if that lies past the end.
 pub fn rest(text: &[u8], at: usize) -> &[u8]
     ensures { λ r. ⌜ now r ≡ drop at (now (text .entry)) ⌝ }
 {

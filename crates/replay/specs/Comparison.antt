@@ -14,7 +14,7 @@ use Rattle.vectors.specs.declared.State.{State}
 use Rattle.replay.specs.declared.compare.Verdict.{Verdict}
 use Rattle.replay.specs.SameBytes.{sameBytes}
 
--- the machine of a state that was read: bit 2 of the levels is set where NMI was low at the last step
+-- the machine of a state that was read: bit 2 of the levels is set if NMI was low at the last step
 abbrev pub machineAt : State → Machine
 machineAt s =
     machineOf (registersOf (s .accumulator) (s .x) (s .y) (s .stack) (s .counter) (pulledStatus (s .status))) (s .cycles)
@@ -23,7 +23,7 @@ machineAt s =
 abbrev pub linesAt : State → Lines
 linesAt s = linesFrom (s .levels)
 
--- the three levels as a line has them
+-- the three levels as a text line has them
 unfoldable pub levelsByte : Lines → Bool → ℕ
 levelsByte lines nmi = bit (not (lines .nmi)) + bit (not (lines .irq)) * 2 + bit (not nmi) * 4
 

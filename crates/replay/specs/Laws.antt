@@ -1,5 +1,5 @@
--- Laws for the proofs of the code: one more byte cleared, the parts of a line in the order in which they are read,
--- and one more line counted.
+-- Laws for the proofs of the code: one more byte cleared, the fields of a text line in the order in which they are read,
+-- and one more text line counted.
 use Prim.Native.Nat.{ℕ, zero, suc, _+_, _-_, _<_, _≤_}
 use mathlib.Core.Path.{_≡_, refl, sym, ap, _∙_}
 use mathlib.Core.List.{List}

@@ -33,7 +33,7 @@ same-true (a ∷ s) (b ∷ t) e =
     let rest : s ≡ t = same-true s t (h .1) in
     cc
 
--- a test that is true exactly where the lists are equal is this one
+-- a test that is true exactly if the lists are equal is this one
 agrees : (r t : Bool) → (r ≡ true → t ≡ true) → (t ≡ true → r ≡ true) → r ≡ t
 agrees true t f g = sym (f refl)
 agrees false true f g = g refl

@@ -1,4 +1,4 @@
--- The verdict on a line.
+-- The verdict on a text line of the list.
 use Prim.Native.Nat.{ℕ, zero, suc, _+_}
 use mathlib.Core.Bool.{Bool, cond, false}
 use mathlib.Core.List.{List}
@@ -88,6 +88,6 @@ tallyFrom (suc n) s at lines differ =
 unfoldable pub tallyOf : List ℕ → Tally
 tallyOf s = tallyFrom (length s) s 0 0 0
 
--- the status of a list that was read into a buffer of 2,097,152 bytes: where it fills it, there may be more
+-- the status of a list that was read into a buffer of 2,097,152 bytes: if it fills it, there may be more
 abbrev pub replayStatus : List ℕ → ℕ
 replayStatus s = cond (eqb (length s) 2097152) 1 (checkStatus (tallyOf s .lines) (tallyOf s .differ))

@@ -1,4 +1,4 @@
-// One step of the core against what a line says of it.
+// One step of the core against what a text line says of it.
 ghost use mathlib.Core.Path.{_≡_};
 ghost use lib.ListN.{length};
 ghost use Rattle.manual.specs.Micro.{exec};
@@ -13,7 +13,7 @@ use registers::Status;
 use registers::flag;
 use vectors::State;
 
-// The first part in which a step and its line differ.
+// The first field in which a step and its text line differ.
 pub(crate) enum Verdict {
     Same,
     Malformed,
@@ -52,7 +52,7 @@ fn lines_at(state: State) -> Lines
     lines_from(state.levels)
 }
 
-// The levels as a line has them: the present ones, and the last one of NMI.
+// The levels as a text line has them: the present ones, and the last one of NMI.
 fn levels_byte(lines: Lines, nmi: bool) -> u8
     ensures { λ r. ⌜ r ≡ levelsByte lines nmi ⌝ }
 {

@@ -1,4 +1,4 @@
-// One line: its parts, and the step that it describes.
+// One text line of the list: its fields, and the step that it describes.
 ghost use mathlib.Core.Path.{_≡_};
 ghost use lib.ListN.{length, replicate};
 ghost use Rattle.replay.specs.Verdicts.{endAt, wellFormed, lineAt, lineVerdict};
@@ -31,7 +31,7 @@ fn clear(memory: &mut [u8])
     }
 }
 
-// The end of a line; one space may stand before it, where the last list is empty.
+// The end of a line; one space may stand before it, if the last list is empty.
 fn read_end(text: &[u8], at: usize) -> usize
     ensures { λ r. ⌜ r ≡ endAt (now (text .entry)) at ⌝ }
 {

@@ -3,7 +3,7 @@
 // run replay [--] [LIST]
 //
 // Every line of the list is one step, in the form of the crate vectors. The list is a file of fewer than 2,097,152 bytes, or
-// standard input where it is `-` or none is named; after `--` its name may begin with `-`. Each line that differs is named.
+// standard input if it is `-` or none is named; after `--` its name may begin with `-`. Each line that differs is named.
 //
 // Exit status: 0 there are lines and none differs; 1 one differs, or there is none, or the list is too long; 64 wrong usage,
 // 66 the list cannot be opened, 74 reading or writing failed.

@@ -1,4 +1,4 @@
--- A line with a name after it, where several images are named.
+-- A line with a name after it, if several images are named.
 use Prim.Native.Nat.{ℕ, _+_, _<_, _≤_}
 use mathlib.Core.Bool.{Bool, true, false, cond}
 use mathlib.Core.List.{List, _++_}

@@ -2,9 +2,9 @@
 //
 // run report [--stop ADDRESS] [--] [IMAGE...]
 //
-// An image is a file, or standard input where it is `-` or none is named; after `--` a name may begin with `-`. It is run for
+// An image is a file, or standard input if it is `-` or none is named; after `--` a name may begin with `-`. It is run for
 // at most 1,000 steps. Its line goes to standard output, and a sentence, with the image's name before it, to standard error.
-// Where several are named, the name stands after the line too, two spaces apart, its control characters as `?`. ADDRESS, four
+// If several are named, the name stands after the line too, two spaces apart, its control characters as `?`. ADDRESS, four
 // capital hexadecimal digits, is where the program is meant to end: without it nothing counts as finished.
 //
 // Exit status: 0 the run ended at ADDRESS; 3 at another byte that is no opcode, or no address was given; 20 it was still
@@ -49,7 +49,7 @@ fn put_after(index: usize, text: &mut [u8], size: usize) -> usize
     put_byte(text, after_name, b'\n')
 }
 
-// Writes a line of so many characters, with the name after it where there are several.
+// Writes a line of so many characters, with the name after it if there are several.
 fn write_line(index: usize, several: bool, text: &mut [u8], size: usize, failed: &mut u8)
     requires { ⌜ (0 < size) × (size ≤ 64) × (length (now text) ≡ 4162) ⌝ }
     ensures { λ r. ⌜ FailureStays (now (failed .entry)) (now (failed .exit)) ⌝ }
@@ -62,7 +62,7 @@ fn write_line(index: usize, several: bool, text: &mut [u8], size: usize, failed:
     write_output(&text[..size], failed);
 }
 
-// Reports an image that was read, and answers its status; where that failed, it is not run. 64 is the most that a line can
+// Reports an image that was read, and answers its status; if that failed, it is not run. 64 is the most that a line can
 // have (`report`), and 4,162 with a name (`put_after`).
 fn report_image(index: usize, several: bool, goal: Goal, image: &mut [u8], failed: &mut u8) -> u8
     ensures { λ r. ⌜ r ≡ firstOf (now (failed .exit)) (imageStatus goal (now (image .entry))) ⌝ }
@@ -100,7 +100,7 @@ fn report_argument(
     size
 }
 
-// Reports the images that the arguments from an index on name, each with a cell of its own, or standard input where there
+// Reports the images that the arguments from an index on name, each with a cell of its own, or standard input if there
 // are none.
 fn report_all(from: usize, goal: Goal) -> u8 {
     let mut input = image_buffer();

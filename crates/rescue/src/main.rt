@@ -2,12 +2,12 @@
 //
 // run rescue [--] [TAPE]
 //
-// The tape is a file of fewer than 1,048,576 characters, or standard input where it is `-` or none is named. A data record is
-// kept where it is well formed, has the right sum and ends at FFFF or below. A sentence on standard error says how many were
+// The tape is a file of fewer than 1,048,576 characters, or standard input if it is `-` or none is named. A data record is
+// kept if it is well formed, has the right sum and ends at FFFF or below. A sentence on standard error says how many were
 // kept and dropped, and after how many characters the first that was dropped begins, with the tape's name before it.
 //
 // A tape of which nothing was dropped may still not be whole: a record may be missing altogether, or have lost its mark, so
-// that it stands between records as something else. So the old tape is read too, and where a reader refuses it the sentence
+// that it stands between records as something else. So the old tape is read too, and if a reader refuses it the sentence
 // says so, and a second one what the reader found, and where.
 //
 // Exit status: 0 nothing was dropped, and the old tape is good; 21 something was: the new tape is not the whole tape; 5 or 8
@@ -53,7 +53,7 @@ fn explain(index: usize, rescued: Rescued, verdict: Verdict, failed: &mut u8)
     say_of(index, &text[..size], failed);
 }
 
-// Says why a reader refuses the old tape, where nothing else has told that it is not whole.
+// Says why a reader refuses the old tape, if nothing else has told that it is not whole.
 fn explain_old(index: usize, rescued: Rescued, verdict: Verdict, failed: &mut u8)
     ensures { λ r. ⌜ FailureStays (now (failed .entry)) (now (failed .exit)) ⌝ }
 {

@@ -33,7 +33,7 @@ module _ (s buffer : List ℕ) (good : rescued s buffer .answer ≡ 0) where
       → readTape (written (rescued s buffer)) m ≡ goodText (written (rescued s buffer)) (saved 0 s .records) m
   rescued-read m full = let known = answered s buffer good in rw its-text (written-read (saved 0 s .records) (kept-fits 0 s) (omega (arith, known .0)) m full)
 
--- A sound tape in any spelling is rescued whole, where the buffer holds it: all is kept, and nothing dropped.
+-- A sound tape in any spelling is rescued whole, if the buffer holds it: all is kept, and nothing dropped.
 module _ (s buffer : List ℕ) (rs : List Stretch) (sound : Tape rs s) (room : length (tapeText 0 rs) ≤ length buffer) where
   pub sound-rescued : rescued s buffer ≡ restored (record { records = rs; dropped = 0; first = length s }) buffer
   unfolding rescued

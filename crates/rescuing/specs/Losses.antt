@@ -106,7 +106,7 @@ dropped-from at (c ∷ s) = by-item (eqb c 59) (worth (recordOf 59 (c ∷ s))) �
 pub dropped-are-lost : (s : List ℕ) → saved 0 s .dropped ≡ numberOf (lost s) (length s)
 dropped-are-lost s = dropped-from 0 s
 
--- the first lost one, j characters on from `at`; the text's length where there is none
+-- the first lost one, j characters on from `at`; the text's length if there is none
 pub record FirstLost (at : ℕ) (s : List ℕ) (first j : ℕ) : Type 0 where
   pub offset : first ≡ at + j
   pub inside : j ≤ length s
@@ -140,7 +140,7 @@ first-from at (c ∷ s) = by-item (eqb c 59) (worth (recordOf 59 (c ∷ s))) ref
     by-item true (stretch r) e f rest = later (rw (e, f)) (saved (suc at) s .first) rest
     by-item false x e f rest = later (rw e) (saved (suc at) s .first) rest
 
--- The offset is that of the first lost one, and the text's length where none is lost.
+-- The offset is that of the first lost one, and the text's length if none is lost.
 pub first-is-lost : (s : List ℕ) → FirstLost 0 s (saved 0 s .first) (saved 0 s .first)
 first-is-lost s = by-offset (first-from 0 s)
   where

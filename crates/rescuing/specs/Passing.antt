@@ -28,7 +28,7 @@ use Rattle.rescuing.specs.declared.Pass.{Pass}
 use Rattle.rescuing.specs.Rescuing.{worth, Saved, found}
 use Rattle.rescuing.specs.Laws.{worth-item}
 
--- the counts and the offset, and the whole text where an end record fits
+-- the counts and the offset, and the whole text if an end record fits
 pub record Passed (x : Saved) (l l′ : List ℕ) (p : Pass) : Type 0 where
   pub keeps : p .kept ≡ length (x .records)
   pub drops : p .dropped ≡ x .dropped

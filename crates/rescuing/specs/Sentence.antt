@@ -10,7 +10,7 @@ use Rattle.rescuing.specs.declared.Rescued.{Rescued}
 abbrev pub keptRecords : ℕ → List ℕ
 keptRecords kept = decimal kept ++ cond (eqb kept 1) (characters " record is kept") (characters " records are kept")
 
--- where a reader takes the old tape, nothing stands between records; where it does not, something may have been one
+-- if a reader takes the old tape, nothing stands between records; if it does not, something may have been one
 abbrev pub keptSentence : ℕ → ℕ → List ℕ
 keptSentence kept read =
     cond (eqb read 0) (characters "nothing was dropped: " ++ keptRecords kept ++ characters "\n")

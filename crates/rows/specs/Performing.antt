@@ -19,7 +19,7 @@ use Rattle.rows.specs.declared.Pending.{Pending}
 use Rattle.rows.specs.declared.Row.{Row}
 use Rattle.rows.specs.declared.Dispatched.{Dispatched}
 
--- an entry of the table by the numbers of its operation and its mode
+-- a row of the table by the numbers of its operation and its mode
 abbrev pub entryOf : ℕ → ℕ → ℕ → Entry
 entryOf operation mode cycles = record { instruction = operationAt operation; mode = modeAt mode; cycles = cycles }
 

@@ -24,7 +24,7 @@ use Rattle.rows.specs.declared.Pending.{Pending}
 use Rattle.rows.specs.declared.Dispatched.{Dispatched}
 use Rattle.rows.specs.Performing.{readEntry, ticksOf, performedFrom, performed, dispatched, finishedBy, fetching}
 
--- what an entry's instruction leaves
+-- what a row's instruction leaves
 pub entry-performed : (e : Entry) (r : Registers) (m : List ℕ) {f : Effect} {m′ : List ℕ} → Gives (perform (e .instruction) (e .mode) r) m f m′
     → Gives (performed e r) m (Dispatched.Performed (performedFrom (e .cycles) f)) m′
 entry-performed e r m g = then (perform (e .instruction) (e .mode) r) (λ f. done (Dispatched.Performed (performedFrom (e .cycles) f))) m g refl
@@ -35,7 +35,7 @@ pub fetching-gives : (mode : AddressingMode) (cycles : ℕ) (r : Registers) (m :
 unfolding fetching
 fetching-gives mode cycles r m t e = then (target mode r) _ m e refl
 
--- whatever the operation is, with the byte it gives what its entry does
+-- whatever the operation is, with the byte it gives what its row does
 pub fetch-performs : (k : ReadOperation) (mode : AddressingMode) (cycles : ℕ) (r : Registers) (m : List ℕ) {p : Pending} {m′ : List ℕ}
     → Gives (fetching mode cycles r) m p m′ → Gives (performed (readEntry k mode cycles) r) m (finishedBy k p) m′
 unfolding fetching perform
@@ -62,7 +62,7 @@ undefined-of : (d : Decoded) → rowsOf d ≡ 0 → d ≡ Undefined
 undefined-of (Defined e) p = absurd (omega (arith, p))
 undefined-of Undefined p = refl
 
--- an opcode without a line, by a test of all 256
+-- an opcode without a row, by a test of all 256
 pub no-row : (ks : List ℕ) → ((k : ℕ) → k < 256 → left ks k ≡ 0)
     → (opcode : ℕ) (r : Registers) (m : List ℕ) → opcode < 256 → NoneOf opcode ks
     → Gives (dispatched (decoded opcode) r) m Dispatched.NotAnOpcode m

@@ -62,7 +62,7 @@ fn execute_keeping(
 }
 
 // A row that keeps the memory as it is. Its operation and its mode come as numbers: where it is called they are fixed, so that
-// the compiler leaves the rest out; and a line that makes no enum is checked in a third of the time.
+// the compiler leaves the rest out; and a row that makes no enum is checked in a third of the time.
 pub fn keeps(operation: u8, mode: u8, cycles: u8, registers: Registers, memory: &[u8]) -> Row
     requires { ⌜
         (length (now memory) ≡ fullMemory)

@@ -18,7 +18,7 @@ pub use storing::stores;
 // A step on the clock of a run: the steps that are left stand from here on, and the cycles that were made below.
 pub const STEP: u64 = 0x1000_0000;
 
-// What an opcode's instruction leaves: the registers, what it takes off the clock, and the address that it put out first.
+// What an opcode's instruction leaves: the registers, what it takes off the clock, and its first address on the bus.
 pub struct Performed {
     pub registers: Registers,
     pub ticks: u64,

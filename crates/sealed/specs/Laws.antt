@@ -39,7 +39,7 @@ module _ (w : Work) (input image : List ℕ) {x : Watched} {m′ : List ℕ} (co
   left-whole : sealedStatus (w .goal) x ≡ 0 → length m′ ≡ fullMemory
   left-whole z = same-length ∙ ap length copied ∙ whole-by z (ℕ-discrete (length input) fullMemory)
 
-  -- What is left of it, where that is 0: the memory stands at the start of the buffer.
+  -- What is left of it, if that is 0: the memory stands at the start of the buffer.
   pub file-of : {file : List ℕ} → sealedStatus (w .goal) x ≡ 0 → file ≡ watchedFile (w .goal) x (take fullMemory (m′ ++ drop (length input) image))
       → file ≡ watchAfter w input
   unfolding watchAfter

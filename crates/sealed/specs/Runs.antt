@@ -11,11 +11,11 @@ use Rattle.sealed.specs.declared.Work.{Work}
 unfoldable pub watchStatus : Work → List ℕ → ℕ
 watchStatus w file = sealedStatus (w .goal) (extract (w .first) (w .last) (w .steps) file .0)
 
--- as go's, where it was not halted
+-- as go's, if it was not halted
 abbrev pub watchedFile : Goal → Watched → List ℕ → List ℕ
 watchedFile goal (Watched.Ran q) m = afterFile goal (q .machine) m
 watchedFile goal (Watched.Halted h) m = m
 
--- what AFTER holds where the status is 0
+-- what AFTER holds if the status is 0
 unfoldable pub watchAfter : Work → List ℕ → List ℕ
 watchAfter w file = let x = extract (w .first) (w .last) (w .steps) file in watchedFile (w .goal) (x .0) (x .1)

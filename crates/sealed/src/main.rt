@@ -4,8 +4,8 @@
 //
 // FIRST and LAST are the first and the last sealed address, four capital hexadecimal digits each; FFFC and FFFD, where the run
 // finds its start, cannot be sealed. STEPS, STOP, IMAGE and AFTER are those of go, but a halted run is no IMAGE here. The line
-// of report goes to standard output, with 13 for its answer where the run was halted; what can be sworn of the sealed bytes
-// goes to standard error, with the image's name before it. What the run leaves is written to AFTER, whole and at once, where
+// of report goes to standard output, with 13 for its answer if the run was halted; what can be sworn of the sealed bytes
+// goes to standard error, with the image's name before it. What the run leaves is written to AFTER, whole and at once, if
 // it ended as it was meant to: the memory, and with `-` for STOP the line of the state after it, as go writes a halted run.
 // There a sealed byte that was never stored to is 00, whatever it was: nothing that comes out depends on a sealed byte.
 //
@@ -117,7 +117,7 @@ fn put_watched(file: &mut [u8], goal: Goal, watched: Watched) -> usize
     }
 }
 
-// Keeps a file that a run left. `input` is what was read: only where its status is 0, and only what the definition says.
+// Keeps a file that a run left. `input` is what was read: only if its status is 0, and only what the definition says.
 fn keep(after: usize, work: Work, input: &[u8], status: u8, file: &[u8], failed: &mut u8)
     requires { ⌜ (status ≡ 0) × (watchStatus work (now input) ≡ 0) × (now file ≡ watchAfter work (now input)) ⌝ }
     requires { ⌜ now failed ≡ 0 ⌝ }

@@ -1,5 +1,5 @@
 -- The oath: what may be signed of the extract of an image (docs/OATH.md), a theorem for each sentence. `extract` is what `run_sealed` promises,
--- with the answer w and the memory x, which the program writes to AFTER where its status is 0. The run of an image is the one that `go` makes
+-- with the answer w and the memory x, which the program writes to AFTER if its status is 0. The run of an image is the one that `go` makes
 -- of it (`longImageRun`): it reads its start at FFFC and FFFD, and makes at most so many steps with idle lines.
 use Prim.Native.Nat.{ℕ, _<_}
 use mathlib.Core.Path.{_≡_, ap, sym, _∙_, subst}

@@ -125,7 +125,7 @@ module _ (first last : ℕ) where
       at a false e f = refl
 
   module _ (steps : ℕ) (m : List ℕ) (full : length m ≡ fullMemory) (lo : seal 0xFFFC ≡ false) (hi : seal 0xFFFD ≡ false) where
-    -- where the address of the start is not sealed, both start there
+    -- if the address of the start is not sealed, both start there
     same-start : imageStart (blanked seal m) ≡ imageStart m
     unfolding imageStart
     same-start =
@@ -147,7 +147,7 @@ module _ (first last : ℕ) where
         let k = code-long-apart seal steps idle (imageStart m) m (blanked seal m) (blanked-differs m full) _ w refl (g ∙ as-watched) in
         ap (λ (v : Watched). (v, longGuarded seal (length m) steps idle (imageStart m) m .1)) (k .0)
 
-    -- Where it was not halted, the run of the image gives what it answered and reads nothing sealed, and AFTER is what the run of the blanked
+    -- If it was not halted, the run of the image gives what it answered and reads nothing sealed, and AFTER is what the run of the blanked
     -- image leaves.
     pub record NotHalted (q : Ended) (x : List ℕ) : Type 0 where
       pub answers : exec (longImageRun steps (length m)) m .0 ≡ q
@@ -182,7 +182,7 @@ module _ (first last : ℕ) where
         let same : p ≡ q = sym (so .answers) ∙ ap (λ (v : Ended × List ℕ). v .0) ran in
         subst (λ (q : Ended). (w ≡ Watched.Ran q) × (reached goal q ≡ true) × NotHalted q x) same (is, good, so)
 
-    -- Where it was halted, so is the watched run of the image, and at the same place.
+    -- If it was halted, so is the watched run of the image, and at the same place.
     pub halted-there : (h : Halt) {x : List ℕ} → (Watched.Halted h, x) ≡ extract first last steps m
         → Stopped seal (length m) steps idle (imageStart m) m (λ j. longRun (length m) j idle (imageStart m)) (λ j. listedLongRun (length m) j idle (imageStart m) m)
         (h .place) (h .steps) (h .machine) (longGuarded seal (length m) steps idle (imageStart m) m .1)

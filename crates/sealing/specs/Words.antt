@@ -35,7 +35,7 @@ abbrev pub oathText : ℕ → ℕ → Watched → List ℕ
 oathText first last (Watched.Ran q) = unread first last (q .steps)
 oathText first last (Watched.Halted h) = would (h .steps) (h .place)
 
--- how the run ended, in words, where it was not halted; x is the memory that it left
+-- how the run ended, in words, if it was not halted; x is the memory that it left
 abbrev pub endText : Goal → Watched → List ℕ → List ℕ
 endText goal (Watched.Ran q) x = sentence goal q x
 endText goal (Watched.Halted h) x = []

@@ -56,7 +56,7 @@ pub fn run_sealed(steps: u64, first: u16, last: u16, image: &mut [u8]) -> Watche
     watched
 }
 
-// The status: that of a run, or 13 where it was halted.
+// The status: that of a run, or 13 if it was halted.
 pub fn sealed_status(goal: Goal, watched: Watched) -> u8
     ensures { λ r. ⌜ r ≡ sealedStatus goal watched ⌝ }
 {
@@ -78,7 +78,7 @@ fn put_halt(out: &mut [u8], at: usize, halt: Halt) -> usize
     put_byte(out, after_machine, b'\n')
 }
 
-// The line: that of report, with 13 where it was halted.
+// The line: that of report, with 13 if it was halted.
 pub fn put_sealed_line(out: &mut [u8], at: usize, watched: Watched) -> usize
     ensures { λ r. ⌜ Wrote (now (out .entry)) at (sealedLine watched) (now (out .exit)) r ⌝ }
     ensures { λ r. ⌜ r ≤ at + 72 ⌝ }

@@ -38,7 +38,7 @@ allMade steps = characters "done: all " ++ decimal steps ++ characters " steps w
 abbrev pub endedAt : ℕ → List ℕ
 endedAt counter = characters "done: it ended at " ++ hex4 counter ++ characters ", as it was meant to\n"
 
--- where the run ended as it was meant to
+-- if the run ended as it was meant to
 unfoldable pub done : Reason → ℕ → ℕ → List ℕ
 done reason steps counter = cond (isMade reason) (allMade steps) (endedAt counter)
 

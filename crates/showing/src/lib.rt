@@ -27,7 +27,7 @@ struct Told {
     status: u8,
 }
 
-// Shows the run of an image, says how it ended, and answers its status. Where its lines cannot be written nothing is said of it.
+// Shows the run of an image, says how it ended, and answers its status. If its lines cannot be written nothing is said of it.
 fn show_image(
     index: usize,
     view: View,

@@ -87,7 +87,7 @@ fn write_head(view: View, machine: Machine, length: usize, failed: &mut u8)
     }
 }
 
-// How far a trace is, where its lines do not go to the terminal themselves.
+// How far a trace is, if its lines do not go to the terminal themselves.
 fn tell_progress(view: View, made: u64) {
     match view {
         View::States => {
@@ -99,7 +99,7 @@ fn tell_progress(view: View, made: u64) {
     }
 }
 
-// A run of at most `count` steps, part by part. It is broken off where its lines cannot be written.
+// A run of at most `count` steps, part by part. It is broken off if its lines cannot be written.
 fn show_on(view: View, start: Machine, count: u64, image: &mut [u8], failed: &mut u8) -> Ended
     ensures { λ r. ⌜ (now (failed .exit) ≡ 0 → Gives (longRun (length (now (image .entry))) count idle start) (now (image .entry)) r (now (image .exit))) ⌝ }
     ensures { λ r. ⌜ FailureStays (now (failed .entry)) (now (failed .exit)) ⌝ }

@@ -1,4 +1,4 @@
--- What is read at the head of a text: the seven fields of a line, and the state that they spell. What that means is said in Lines and proved
+-- What is read at the head of a text: the seven fields of a text line, and the state that they spell. What that means is said in Lines and proved
 -- in Theorems: exactly the lines that `machineFields` of the report writes.
 use Prim.Native.Nat.{ℕ, _+_}
 use mathlib.Core.Bool.{true, cond}
@@ -58,7 +58,7 @@ spelledBy f =
 unfoldable pub lineOf : List ℕ → Line
 lineOf s = spelledBy (fieldsOf s)
 
--- the same line where the text begins at a place of a longer one
+-- the same line if the text begins at a place of a longer one
 abbrev pub lineFrom : ℕ → Line → Line
 lineFrom at (State q) = State (record { machine = q .machine; next = at + q .next })
 lineFrom at Malformed = Malformed

@@ -1,4 +1,4 @@
--- The line of a state, as it is printed: the last seven fields of the report's line, and LF.
+-- The text line of a state, as it is printed: the last seven fields of the report's line, and LF.
 use Prim.Native.Nat.{ℕ, _<_, _^_}
 use mathlib.Core.Path.{_≡_}
 use mathlib.Core.Bool.{true}
@@ -8,7 +8,7 @@ use Rattle.registers.specs.InRange.{InRange}
 use Rattle.laws.specs.Characters.{characters}
 use Rattle.states.specs.Fields.{machineFields}
 
--- the machines that a line spells: all that the code can hold, where the last level of NMI is high
+-- the machines that a text line spells: all that the code can hold, if the last level of NMI is high
 pub record Spellable (s : Machine) : Type 0 where
   pub registers : InRange (s .registers)
   pub cycles : s .cycles < 2 ^ 64

@@ -1,4 +1,4 @@
--- A line and its state, there and back: what `machineFields` wrote is read, what was read was written so, and all else is malformed.
+-- A text line and its state, there and back: what `machineFields` wrote is read, what was read was written so, and all else is malformed.
 use Prim.Native.Nat.{ℕ, _+_, _<_, _≤_, _^_}
 use mathlib.Core.Path.{_≡_, refl, ap, sym, _∙_, subst}
 use mathlib.Core.Logic.{_↔_}

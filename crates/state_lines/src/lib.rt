@@ -1,4 +1,4 @@
-// A line of a recorded trace: the last seven fields of the report's line, and LF.
+// An entry of a log: the last seven fields of the report's line, and LF.
 //
 //   CYCLES COUNTER A X Y S STATUS
 //
@@ -46,7 +46,7 @@ pub enum Line {
     Malformed,
 }
 
-// The text from a place on; nothing where that lies past the end.
+// The text from a place on; nothing if that lies past the end.
 pub fn rest(text: &[u8], at: usize) -> &[u8]
     ensures { λ r. ⌜ now r ≡ drop at (now (text .entry)) ⌝ }
 {
@@ -54,7 +54,7 @@ pub fn rest(text: &[u8], at: usize) -> &[u8]
     if at < end { &text[at..] } else { &text[end..] }
 }
 
-// Where a text begins with 0, that is the whole number: so there is no leading zero.
+// If a text begins with 0, that is the whole number: so there is no leading zero.
 fn read_cycles(text: &[u8]) -> Count
     ensures { λ r. ⌜ r ≡ cyclesOf (now (text .entry)) ⌝ }
 {
@@ -75,7 +75,7 @@ fn read_field(text: &[u8], at: usize) -> Byte
     read_byte(text, read_mark(text, at, b' '))
 }
 
-// The fields with which a text begins; where they are not there, or LF does not follow, the next place is NOWHERE.
+// The fields with which a text begins; if they are not there, or LF does not follow, the next place is NOWHERE.
 fn read_fields(text: &[u8]) -> Fields
     ensures { λ r. ⌜ r ≡ fieldsOf (now (text .entry)) ⌝ }
 {

@@ -24,11 +24,11 @@ endStatus goal q = cond (reached goal q) 0 (cond (eqb (number (q .reason)) 0) 20
 abbrev pub checkStatus : ℕ → ℕ → ℕ
 checkStatus lines faults = cond (eqb lines 0) 1 (cond (eqb faults 0) 0 1)
 
--- 21: a rescued tape is not a whole tape. Where nothing was dropped the old one may still be cut off: then what its reader answers.
+-- 21: a rescued tape is not a whole tape. If nothing was dropped the old one may still be cut off: then what its reader answers.
 abbrev pub rescueStatus : ℕ → ℕ → ℕ → ℕ
 rescueStatus answer dropped read = cond (eqb answer 0) (cond (eqb dropped 0) read 21) answer
 
--- 11: a log without a line
+-- 11: a log without an entry
 abbrev pub logStatus : ℕ → ℕ → ℕ → ℕ
 logStatus size answer lines = cond (eqb size 65536) (cond (eqb answer 0) (cond (eqb lines 0) 11 0) answer) 1
 

@@ -1,4 +1,4 @@
--- When a status is 0: only where what was asked for is done.
+-- When a status is 0: only if what was asked for is done.
 use Prim.Native.Nat.{ℕ}
 use mathlib.Core.Path.{_≡_, refl}
 use mathlib.Core.Bool.{Bool, true, false, cond}
@@ -19,7 +19,7 @@ module _ (goal : Goal) (q : Ended) where
   by-goal false true e f h = absurd (omega (arith, rw (e, f) at h))
   by-goal false false e f h = absurd (eqb-false (number (q .reason)) 0 f (rw (e, f) at h))
 
-  -- A run's status is 0 only where it ended as it was meant to.
+  -- A run's status is 0 only if it ended as it was meant to.
   pub only-where-reached : endStatus goal q ≡ 0 → reached goal q ≡ true
   only-where-reached = by-goal (reached goal q) (eqb (number (q .reason)) 0) refl refl
 
@@ -34,7 +34,7 @@ only-at address q h = by-tests (eqb (number (q .reason)) 3) (eqb (q .machine .re
     by-tests true false e f g = let z : false ≡ true = rw (e, f) at g in absurd (let y : _≡_ {A = ℕ} 0 1 = cc in omega arith)
     by-tests false u e f g = let z : false ≡ true = rw e at g in absurd (let y : _≡_ {A = ℕ} 0 1 = cc in omega arith)
 
--- A rescue's status is 0 only where it was not refused, nothing was dropped, and the old tape is one that is read.
+-- A rescue's status is 0 only if it was not refused, nothing was dropped, and the old tape is one that is read.
 pub only-whole : (answer dropped read : ℕ) → rescueStatus answer dropped read ≡ 0 → (answer ≡ 0) × (dropped ≡ 0) × (read ≡ 0)
 only-whole answer dropped read h = by-tests (eqb answer 0) (eqb dropped 0) refl refl h
   where
@@ -44,7 +44,7 @@ only-whole answer dropped read h = by-tests (eqb answer 0) (eqb dropped 0) refl 
     by-tests true false e f g = absurd (omega (arith, rw (e, f) at g))
     by-tests false u e f g = absurd (eqb-false answer 0 e (rw e at g))
 
--- A log's status is 0 only where the image is whole, every line was accepted, and there is one.
+-- A log's status is 0 only if the image is whole, every entry was accepted, and there is one.
 pub only-accepted : (size answer lines : ℕ) → logStatus size answer lines ≡ 0 → (size ≡ 65536) × (answer ≡ 0) × (lines ≡ 0 → ⊥)
 only-accepted size answer lines h = by-tests (eqb size 65536) (eqb answer 0) (eqb lines 0) refl refl refl h
   where

@@ -45,7 +45,7 @@ pub fn reached(goal: Goal, ended: Ended) -> bool
     }
 }
 
-// The status of a run: 0 where it ended as it was meant to, and otherwise its answer number, or 20 for 0.
+// The status of a run: 0 if it ended as it was meant to, and otherwise its answer number, or 20 for 0.
 pub fn end_status(goal: Goal, ended: Ended) -> u8
     ensures { λ r. ⌜ r ≡ endStatus goal ended ⌝ }
 {
@@ -60,7 +60,7 @@ pub fn end_status(goal: Goal, ended: Ended) -> u8
     number
 }
 
-// The status of a list that was checked: 0 where it has a line and no fault.
+// The status of a list that was checked: 0 if it has a line and no fault.
 pub fn check_status(lines: u64, faults: u64) -> u8
     ensures { λ r. ⌜ r ≡ checkStatus lines faults ⌝ }
 {
@@ -73,8 +73,8 @@ pub fn check_status(lines: u64, faults: u64) -> u8
     1
 }
 
-// The status of a tape that was rescued: 0 only where nothing was dropped and a reader takes the old tape too. Otherwise the
-// rescue's answer number, 21 where something was dropped, or the reader's answer: a record that is missing was not dropped.
+// The status of a tape that was rescued: 0 only if nothing was dropped and a reader takes the old tape too. Otherwise the
+// rescue's answer number, 21 if something was dropped, or the reader's answer: a record that is missing was not dropped.
 pub fn rescue_status(answer: u8, dropped: u64, read: u8) -> u8
     ensures { λ r. ⌜ r ≡ rescueStatus answer dropped read ⌝ }
 {
@@ -87,8 +87,8 @@ pub fn rescue_status(answer: u8, dropped: u64, read: u8) -> u8
     SOMETHING_LOST
 }
 
-// The status of a log that was checked on an image of so many bytes: the check's answer, 1 where the image is not whole,
-// and 11 where no line is bad because there is none.
+// The status of a log that was checked on an image of so many bytes: the check's answer, 1 if the image is not whole,
+// and 11 if no entry is bad because there is none.
 pub fn log_status(size: usize, answer: u8, lines: u64) -> u8
     ensures { λ r. ⌜ r ≡ logStatus size answer lines ⌝ }
 {

@@ -1,6 +1,6 @@
 // A step on numbers, for a host in C or Rust: see host/include/mos6502.h. It has an archive of its own: what a step does has one
 // caller in each, so that the compiler puts all of it into this function here, and there into the loop of the runs, which drops
-// the address that a step puts out first.
+// the first address of a step.
 ghost use Rattle.mos6502.specs.Calls.{StepCall};
 use cpu::turn;
 use manual::FULL_MEMORY;
@@ -8,8 +8,8 @@ use numbers::hand_back;
 use numbers::lines_from;
 use numbers::machine_from;
 
-// A step with the levels of `lines`: bit 0 is set where NMI is low, bit 1 where IRQ is. A refusal leaves both numbers and the
-// memory as they were; it and a line that is served give 0000 for the address put out first.
+// A step with the levels of `lines`: bit 0 is set if NMI is low, bit 1 if IRQ is. A refusal leaves both numbers and the
+// memory as they were; it and a line that is served give 0000 for the first address.
 #[no_mangle]
 pub extern "C" fn mos6502_step(
     registers: &mut u64,

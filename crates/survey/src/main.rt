@@ -2,10 +2,10 @@
 //
 // run survey [--] [TAPE...]
 //
-// A tape is a file of fewer than 1,048,576 characters, or standard input where it is `-` or none is named. Its line has
+// A tape is a file of fewer than 1,048,576 characters, or standard input if it is `-` or none is named. Its line has
 // seven decimal numbers. Three are the reader's: its answer, the good records before the first bad one, and the characters
 // before that one. Four are a rescue's: its answer, the records kept, those dropped, and the characters before the first of
-// these. Where none is bad or dropped, the length of the tape stands there; of a rescue that is refused the last three are 0. A
+// these. If none is bad or dropped, the length of the tape stands there; of a rescue that is refused the last three are 0. A
 // sentence on standard error says what the reader found, with the tape's name before it. No file is written.
 //
 // Exit status: 0 the tape is good; 5 a record is malformed or cut short, or a stray character stands there; 6 it has a wrong

@@ -2,7 +2,7 @@
 //
 // run tape [--] [HEX]
 //
-// HEX is a file of fewer than 1,048,576 characters, or standard input where it is `-` or none is named. It has records of the
+// HEX is a file of fewer than 1,048,576 characters, or standard input if it is `-` or none is named. It has records of the
 // types 00 and 01 alone, in capital digits. Each data record keeps its address and its data, CR LF stands after each record,
 // and the end record counts them. HEX that is refused is not begun. A sentence on standard error says what was found, with
 // the file's name before it; of a bad one, after how many good records and how many characters the first bad one begins.

@@ -37,7 +37,7 @@ abbrev pub written : Delivered → List ℕ
 written d = take (d .size) (d .buffer)
 
 module _ (t buffer : List ℕ) where
-  -- Where there is room, the text stands at the buffer's start, and after it what stood there before.
+  -- If there is room, the text stands at the buffer's start, and after it what stood there before.
   pub whole-text : length t ≤ length buffer
       → delivered t buffer ≡ record { answer = 0; size = length t; buffer = t ++ drop (length t) buffer }
   whole-text h = rw (le-ltb (length buffer) (length t) h, sets-eq t buffer 0 (omega arith), zero-add (length t))

@@ -1,6 +1,6 @@
 // Text written into a lent buffer. Every writer is told where to begin and answers where its text ends; what does not
 // fit is dropped, and the answer is the same. So none needs room, and the length of a text is what it answers on any
-// buffer. Where a text ends past the largest usize, the answer is that.
+// buffer. If a text ends past the largest usize, the answer is that.
 ghost use mathlib.Core.Path.{_≡_};
 ghost use mathlib.Core.List.{[], _∷_};
 ghost use Prim.Native.Nat.{_<_};

@@ -35,7 +35,7 @@ module _ (a b k : ℕ) (s : Machine) (m : List ℕ) (q : Ended) (m′ : List ℕ
   after-step true v e f g h rest = ap (λ (l : List ℕ). shown m s v ++ l) (rest g) ∙ sym (append-assoc (shown m s v) _ _)
   after-step false v e f g h rest = absurd (not-made (v .reason) f (ap (λ (w : Ended × List ℕ). w .0 .reason) g ∙ h))
 
--- Where all of the first a steps are made, the lines of a + b steps are those of the a, and then those of b more from what they leave.
+-- If all of the first a steps are made, the lines of a + b steps are those of the a, and then those of b more from what they leave.
 pub in-parts : (a b k : ℕ) (s : Machine) (m : List ℕ) {q : Ended} {m′ : List ℕ} → Gives (runFull a k idle s) m q m′ → q .reason ≡ Made
     → fullTimetable (a + b) s m ≡ fullTimetable a s m ++ fullTimetable b (q .machine) m′
 unfolding runFull runWhile fullTimetable

@@ -1,4 +1,4 @@
--- The timetable of a run with idle lines: a line for each step that is made, for the lesson on timing.
+-- The timetable of a run with idle lines: a text line for each step that is made, for the lesson on timing.
 use Prim.Native.Nat.{ℕ, zero, suc, _-_}
 use mathlib.Core.Bool.{cond}
 use mathlib.Core.List.{List, [], _++_}
@@ -14,16 +14,16 @@ use Rattle.laws.specs.Characters.{characters}
 use Rattle.text.specs.Numerals.{hex4, decimal, spaced}
 use Rattle.listing.specs.Lines.{instructionAt}
 
--- the instruction as the listing has it, the cycles that the step took, and the address that it put out first, one space apart
+-- the instruction as the listing has it, the cycles that the step took, and its first address on the bus, one space apart
 abbrev pub stepLine : List ℕ → ℕ → ℕ → List ℕ
 stepLine instruction cycles first = instruction ++ spaced (decimal cycles) ++ spaced (hex4 first) ++ characters "\n"
 
--- the line of a step from s on the memory m that answers q; a refused step has none
+-- the text line of a step from s on the memory m that answers q; a refused step has none
 abbrev pub shown : List ℕ → Machine → Stepped → List ℕ
 shown m s q =
     cond (isMade (q .reason)) (stepLine (instructionAt m (s .registers .counter)) (q .machine .cycles - s .cycles) (q .first)) []
 
--- the lines of at most n steps on a full memory: the first that is refused ends them
+-- the text of at most n steps on a full memory: the first that is refused ends them
 unfoldable pub fullTimetable : ℕ → Machine → List ℕ → List ℕ
 fullTimetable zero s m = []
 fullTimetable (suc n) s m =

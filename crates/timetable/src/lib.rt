@@ -1,5 +1,5 @@
-// The lesson on timing: the steps of a run, a line for each, with the cycles that it took and the address that it put out
-// first.
+// The lesson on timing: the steps of a run, a text line for each, with the cycles that it took and its first address on the
+// bus.
 ghost use Prim.Native.Nat.{_+_, _*_, _≤_};
 ghost use mathlib.Core.Path.{_≡_};
 ghost use lib.ListN.{length};
@@ -27,7 +27,7 @@ struct TimedStep {
     next: usize,
 }
 
-// How the run ended, and how long its lines are.
+// How the run ended, and how long its text is.
 pub struct Timed {
     pub ended: Ended,
     pub size: usize,
@@ -44,7 +44,7 @@ fn put_line(out: &mut [u8], at: usize, instruction: &[u8], cycles: u64, first: u
     put_byte(out, after_first, b'\n')
 }
 
-// A step, and its line where it was made. The instruction is written down first, for the step may store over it; 25 is the
+// A step, and its line if it was made. The instruction is written down first, for the step may store over it; 25 is the
 // most that it can have.
 fn put_step(out: &mut [u8], at: usize, machine: Machine, memory: &mut [u8]) -> TimedStep
     requires { ⌜ length (now memory) ≡ fullMemory ⌝ }

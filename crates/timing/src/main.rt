@@ -1,11 +1,11 @@
-// Prints the first steps of an image's run, a line each: the instruction, its cycles, and the address put out first.
+// Prints the first steps of an image's run, a line each: the instruction, its cycles, and the first address on the bus.
 //
 // run timing [--stop ADDRESS] COUNT [--] [IMAGE]
 //
-// COUNT is a decimal number. The image is a file of 65,536 bytes, or standard input where it is `-` or none is named; after
+// COUNT is a decimal number. The image is a file of 65,536 bytes, or standard input if it is `-` or none is named; after
 // `--` its name may begin with `-`. It is started as report starts it and makes at most COUNT steps. The line of a step is
-// that of the listing for the instruction, then the cycles that the step took, in decimal, and the address that it put out
-// first, 0000 where it has none: where an index crosses a page, the part first puts out an address in the wrong page. A
+// that of the listing for the instruction, then the cycles that the step took, in decimal, and its first address on the
+// bus, 0000 if it has none: if an index crosses a page, the first address is in the wrong page. A
 // sentence on standard error says how the run ended, with the image's name before it.
 //
 // Exit status: as of report. 0 the run ended at ADDRESS; 3 at another byte that is no opcode, or no address was given; 20 it

@@ -2,7 +2,7 @@
 //
 // run trace COUNT [--] [IMAGE]
 //
-// COUNT is a decimal number. The image is a file of 65,536 bytes, or standard input where it is `-` or none is named; after
+// COUNT is a decimal number. The image is a file of 65,536 bytes, or standard input if it is `-` or none is named; after
 // `--` its name may begin with `-`. It is started as report starts it and makes at most COUNT steps with idle lines. The first
 // line is the state that it starts with, and every other one the state after a step: cycles, counter, A, X, Y, S, status, as
 // at the end of report's line. A sentence on standard error says how the run ended, with the image's name before it.

@@ -36,7 +36,7 @@ verdict-length answer line right a l =
     simp length-append
     (omega (arith, right-length right, decimal-length 2 answer (omega arith), decimal-length 19 line (omega arith)))
 
--- the line of a step, by whether it was made
+-- the entry of a step, by whether it was made
 pub shown-made : (q : Stepped) → isMade (q .reason) ≡ true → shown q ≡ lineText (q .machine)
 shown-made q h = rw h
 

@@ -26,7 +26,7 @@ use Rattle.checking.specs.Honest.{laterStates, honest-accepted}
 use Rattle.tracing.specs.Traces.{shown, fullTrace, trace}
 use Rattle.tracing.specs.Laws.{on-full}
 
--- where k steps are made, n of them at most, and then none: their lines
+-- if k steps are made, n of them at most, and then none: their entries
 made-lines : (k n : ℕ) (s : Machine) (m : List ℕ) (s′ : Machine) (m′ : List ℕ) → Leads k idle s m s′ m′ → fullTrace n s′ m′ ≡ []
     → fullTrace (k + n) s m ≡ logText (laterStates k s m)
 unfolding fullTrace
@@ -48,7 +48,7 @@ unfolding fullTrace
 refused-line n s m q m′ g h = rw (g, h)
 
 module _ (image copy : List ℕ) (s : Machine) (full : length image ≡ fullMemory) (full-copy : length copy ≡ fullMemory) (bytes : Bytes image) (h : Spellable s) where
-  -- The line of a state and the trace of a run from it are accepted, however many steps were asked for and however the run ends.
+  -- The entry of a state and the trace of a run from it are accepted, however many steps were asked for and however the run ends.
   pub trace-accepted : (n : ℕ) {q : Ended} {m′ : List ℕ} → Gives (longRun (length image) n idle s) image q m′
       → checkedTrace image (lineText s ++ trace n s image) copy ≡ (checkedOf 0 0, m′)
   trace-accepted n {q} {m′} g = by-end (run-ends n idle s image (rw (long-whole (length image) n idle s full) at g))
@@ -91,7 +91,7 @@ module _ (a b k : ℕ) (s : Machine) (m : List ℕ) (q : Ended) (m′ : List ℕ
   after-step true v e f g h rest = ap (λ (l : List ℕ). shown v ++ l) (rest g) ∙ sym (append-assoc (shown v) _ _)
   after-step false v e f g h rest = absurd (not-made-by (v .reason) f (ap (λ (w : Ended × List ℕ). w .0 .reason) g ∙ h))
 
--- Where all of the first a steps are made, the lines of a + b steps are those of the a, and then those of b more from what they leave: a trace in
+-- If all of the first a steps are made, the entries of a + b steps are those of the a, and then those of b more from what they leave: a trace in
 -- parts is the whole trace.
 pub in-parts : (a b k : ℕ) (s : Machine) (m : List ℕ) {q : Ended} {m′ : List ℕ} → Gives (runFull a k idle s) m q m′ → q .reason ≡ Made
     → fullTrace (a + b) s m ≡ fullTrace a s m ++ fullTrace b (q .machine) m′

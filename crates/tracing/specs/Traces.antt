@@ -1,4 +1,4 @@
--- The trace of a run with idle lines: the line of the state after each step that is made (P10).
+-- The trace of a run with idle lines: the entry of the state after each step that is made (P10).
 use Prim.Native.Nat.{ℕ, zero, suc}
 use mathlib.Core.Bool.{cond}
 use mathlib.Core.List.{List, [], _++_}
@@ -12,11 +12,11 @@ use Rattle.manual.specs.Interrupts.{idle}
 use Rattle.manual.specs.Stepping.{fullMemory, stepFull}
 use Rattle.state_lines.specs.Lines.{lineText}
 
--- the line of a step that answers q; a refused step has none
+-- the entry of a step that answers q; a refused step has none
 abbrev pub shown : Stepped → List ℕ
 shown q = cond (isMade (q .reason)) (lineText (q .machine)) []
 
--- the lines of at most n steps on a full memory: the first that is refused ends them
+-- the entries of at most n steps on a full memory: the first that is refused ends them
 unfoldable pub fullTrace : ℕ → Machine → List ℕ → List ℕ
 fullTrace zero s m = []
 fullTrace (suc n) s m =

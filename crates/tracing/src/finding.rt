@@ -26,7 +26,7 @@ fn put_bad(out: &mut [u8], at: usize, line: u64, why: &[u8]) -> usize
     put_text(out, after_number, why)
 }
 
-// Writes the sentence for an answer: of 0 with the number of lines, of 11 and 12 with that of the bad one. It has at most 90
+// Writes the sentence for an answer: of 0 with the number of entries, of 11 and 12 with that of the bad one. It has at most 90
 // characters.
 pub fn put_finding(out: &mut [u8], at: usize, answer: u8, number: u64) -> usize
     ensures { λ r. ⌜ Wrote (now (out .entry)) at (finding answer number) (now (out .exit)) r ⌝ }
@@ -46,7 +46,7 @@ pub fn put_finding(out: &mut [u8], at: usize, answer: u8, number: u64) -> usize
     put_bad(out, at, number, b" is malformed, cut short or missing\n")
 }
 
-// Writes the line of a verdict: the answer, the line that it names, and the line that would have been right where there is
+// Writes the line of a verdict: the answer, the entry that it names, and the entry that would have been right if there is
 // one.
 pub fn put_verdict(out: &mut [u8], at: usize, answer: u8, line: u64, right: &[u8]) -> usize
     ensures { λ r. ⌜ Wrote (now (out .entry)) at (verdictLine answer line (now (right .entry))) (now (out .exit)) r ⌝ }

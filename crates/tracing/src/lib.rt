@@ -1,4 +1,4 @@
-// The text of a trace: the lines of a run with idle lines, and the sentence about a trace that was checked.
+// The text of a trace: the entries of a run with idle lines, and the sentence about a trace that was checked.
 ghost use Prim.Native.Nat.{_+_, _*_, _≤_};
 ghost use lib.ListN.{length};
 ghost use Rattle.manual.specs.Micro.{Gives};
@@ -20,19 +20,19 @@ use manual::Reason;
 use manual::Stepped;
 use state_lines::put_line;
 
-// What a step answers, and where its line ends.
+// What a step answers, and where its entry ends.
 pub struct TracedStep {
     pub stepped: Stepped,
     pub next: usize,
 }
 
-// How the run ended, and how long its lines are.
+// How the run ended, and how long its entries are.
 pub struct Traced {
     pub ended: Ended,
     pub size: usize,
 }
 
-// A step, and the line of the state after it where it was made.
+// A step, and the entry of the state after it if it was made.
 pub fn put_step(out: &mut [u8], at: usize, machine: Machine, memory: &mut [u8]) -> TracedStep
     ensures { λ r. ⌜ Gives (step (length (now (memory .entry))) idle machine) (now (memory .entry)) (r .stepped) (now (memory .exit)) ⌝ }
     ensures { λ r. ⌜ Wrote (now (out .entry)) at (shown (r .stepped)) (now (out .exit)) (r .next) ⌝ }
@@ -52,7 +52,7 @@ pub fn put_step(out: &mut [u8], at: usize, machine: Machine, memory: &mut [u8]) 
     }
 }
 
-// At most `bound` steps from a machine, and the lines of the states after them. What does not fit is dropped; a line has at
+// At most `bound` steps from a machine, and the entries of the states after them. What does not fit is dropped; an entry has at
 // most 41 characters.
 pub fn put_steps(out: &mut [u8], machine: Machine, bound: u64, memory: &mut [u8]) -> Traced
     ensures { λ r. ⌜ Gives (longRun (length (now (memory .entry))) bound idle machine) (now (memory .entry)) (r .ended) (now (memory .exit)) ⌝ }

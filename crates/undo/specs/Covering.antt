@@ -1,4 +1,4 @@
--- Places that cover what a step stores to, whatever its instruction: the three that a push can reach, and where the opcode's mode leads.
+-- Addresses that cover what a step stores to, whatever its instruction: the three that a push can reach, and where the opcode's mode leads.
 use Prim.Native.Nat.{ℕ, _+_}
 use mathlib.Core.Logic.{inl, inr}
 use mathlib.Core.Bool.{Bool, true, false, cond}
@@ -27,12 +27,12 @@ use Rattle.manual.specs.Theorems.Stores.{storedByEntry, storedByDue, storedBySt
 abbrev pub covering : Registers → ℕ → List ℕ
 covering r goal = joined 1 (r .stack .0) ∷ joined 1 (lowByte (r .stack .0 + 255)) ∷ joined 1 (lowByte (r .stack .0 + 254)) ∷ goal ∷ []
 
--- where the entry's mode leads; any place will do where there is no entry
+-- where the row's mode leads; any address will do if there is no row
 abbrev pub goalOf : Decoded → Registers → List ℕ → ℕ
 goalOf (Defined e) r m = aim (e .mode) r m
 goalOf Undefined r m = 0
 
--- a place in the part of a list that a test leaves
+-- an address in what a test leaves of a list
 unless : (t : Bool) (l : List ℕ) (i : ℕ) {A : Type 0} → (i ∈ l → A) → i ∈ cond t [] l → A
 unless true l i f j = absurd j
 unless false l i f j = f j

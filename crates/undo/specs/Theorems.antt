@@ -1,4 +1,4 @@
--- What following a state means: a state follows exactly where one step of the definition is made and leads to it, and otherwise the memory is
+-- What following a state means: a state follows exactly if one step of the definition is made and leads to it, and otherwise the memory is
 -- as it was.
 use Prim.Native.Nat.{ℕ}
 use mathlib.Core.Path.{_≡_, refl, ap, sym, _∙_}
@@ -119,7 +119,7 @@ made first next = itself next
 pub followed-by : (s next : Machine) (m : List ℕ) {m′ : List ℕ} → OneStep s m next m′ → followed s next m ≡ (true, m′)
 followed-by s next m h = sym (follow-made s next m (h .1) (made (h .0) next))
 
--- Where it does not follow the memory is as it was.
+-- If it does not follow the memory is as it was.
 chosen-false : (t : Bool) (a b e : List ℕ) → chosen t a b ≡ (false, e) → e ≡ b
 chosen-false true a b e h = untrue (sym (ap (λ (w : Bool × List ℕ). w .0) h))
 chosen-false false a b e h = sym (ap (λ (w : Bool × List ℕ). w .1) h)

@@ -27,7 +27,7 @@ struct Byte {
     value: u8,
 }
 
-// What stood at four places, to which every store of a step goes: the three that a push can reach, and where the opcode's
+// What stood at four addresses, to which every store of a step goes: the three that a push can reach, and where the opcode's
 // mode leads. A place that is not stored to, or that is named twice, does no harm.
 struct Kept {
     first: Byte,
@@ -46,7 +46,7 @@ fn byte_at(place: Address, memory: &[u8]) -> Byte
     }
 }
 
-// Where the mode of the opcode at the counter leads; any place will do where there is no opcode.
+// Where the mode of the opcode at the counter leads; any address will do if there is no opcode.
 fn goal_of(registers: Registers, memory: &[u8]) -> u16
     requires { ⌜ length (now memory) ≡ fullMemory ⌝ }
     ensures { λ r.

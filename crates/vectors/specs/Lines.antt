@@ -1,4 +1,4 @@
--- What stands at a place of a line: a state, a list of cells.
+-- What stands at a place of a text line: a state, a list of cells.
 use Prim.Native.Nat.{ℕ, zero, suc, _+_, _-_}
 use mathlib.Core.Bool.{cond}
 use mathlib.Core.List.{List}

@@ -1,10 +1,10 @@
-// The text of a replayed step, one step a line:
+// The text of a replayed step, one step a text line:
 //
 //   OP LV PC A X Y S P CYCLES | BB@AAAA .. | AN LV PC A X Y S P CYCLES | BB@AAAA ..
 //
 // the opcode and the state before, the bytes of memory before, the answer and the state after, and the bytes that the step
 // stored. Numbers are in capital hexadecimal, the cycles in decimal; a byte that has no cell in the first list is 00. Of the
-// levels, LV, bit 0 is set where NMI is low, bit 1 where IRQ is, and bit 2 where NMI was low at the last step that was made.
+// levels, LV, bit 0 is set if NMI is low, bit 1 if IRQ is, and bit 2 if NMI was low at the last step that was made.
 ghost use mathlib.Core.Path.{_≡_};
 ghost use Prim.Native.Nat.{_<_};
 ghost use lib.ListN.{length, set};
@@ -16,7 +16,7 @@ use reading::read_count;
 use reading::read_mark;
 use reading::read_word;
 
-// A state as a line has it, and where the text goes on. Its number is the opcode before a step, and the answer after it; the
+// A state as a text line has it, and where the text goes on. Its number is the opcode before a step, and the answer after it; the
 // status is as PHP pushes it.
 pub struct State {
     pub number: u8,
@@ -44,7 +44,7 @@ fn read_spaced_byte(text: &[u8], at: usize) -> Byte
     read_byte(text, read_mark(text, at, b' '))
 }
 
-// The state at a place of a line.
+// The state at a place of a text line.
 pub fn read_state(text: &[u8], at: usize) -> State
     ensures { λ r. ⌜ r ≡ stateAt (now (text .entry)) at ⌝ }
 {

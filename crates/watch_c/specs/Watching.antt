@@ -18,7 +18,7 @@ pub record WatchNumbers : Type 0 where
   pub registers : ℕ
   pub cycles : ℕ
 
--- the two numbers are the machine's where a step was made
+-- the two numbers are the machine's if a step was made
 abbrev pub told : ℕ → ℕ → ℕ → ℕ → ℕ → Machine → WatchNumbers
 told registers cycles answer place k s = record {
   answer = answer;

@@ -12,7 +12,7 @@ use witness::watched_long;
 use witness::watched_run;
 use witness::watched_stretch;
 
-// What a watched run answered, as numbers. Where it was not halted the place is 0000.
+// What a watched run answered, as numbers. If it was not halted the place is 0000.
 fn hand_over(
     watched: Watched,
     registers: &mut u64,
@@ -82,7 +82,7 @@ pub extern "C" fn mos6502_watched_run(
     hand_over(watched, registers, cycles, steps, place)
 }
 
-// The same where the addresses from a first to a last one are sealed; none where the last is below the first.
+// The same with the addresses from a first to a last one sealed; none if the last is below the first.
 #[no_mangle]
 pub extern "C" fn mos6502_watched_stretch(
     registers: &mut u64,

@@ -143,7 +143,7 @@ seen-due seal lines s m d room is h = ap (firstSealed seal) (due-list lines s m 
 
 -- ---- with IRQ high
 
--- where nothing is due, NMI does not fall
+-- if nothing is due, NMI does not fall
 pub quiet-held : (lines : Lines) (s : Machine) → due lines s ≡ Quiet → falls lines s ≡ false
 quiet-held lines s e = go (falls lines s) (calls lines s) e
   where
@@ -216,7 +216,7 @@ module _ (seal : ℕ → Bool) (lines : Lines) where
       let e : suc j + n ≡ suc (j + n) = omega arith in
       rw e (then-onward j n k s m (w .0) (w .1) (firstSealed seal (listedStepFull lines s m)) (isMade (w .0 .reason)) refl (guarded-onward j n (k + 1) (w .0 .machine) (w .1)))
 
-  -- where all of some steps were made, they were so many
+  -- if all of some steps were made, they were so many
   abbrev Counted : ℕ → Watched × List ℕ → Type 0
   Counted k (Watched.Ran q, m) = isMade (q .reason) ≡ true → q .steps ≡ k
   Counted k (Watched.Halted h, m) = Unit {0}
@@ -247,7 +247,7 @@ module _ (seal : ℕ → Bool) (bound k j : ℕ) (lines : Lines) (s : Machine) (
         let e : bound - k ≡ j + (bound - k - j) = omega (arith, few .1) in
         ap (λ (i : ℕ). guardedFull seal i k lines s m) e ∙ guarded-onward seal lines j (bound - k - j) k s m ∙ ap (onward seal lines (bound - k - j)) (sym g)
 
-  -- where they were halted or stopped, so is the run
+  -- if they were halted or stopped, so is the run
   pub part-halts : (h : Halt) (e : List ℕ) → (Watched.Halted h, e) ≡ guardedFull seal j k lines s m
       → guardedFull seal (bound - k) k lines s m ≡ (Watched.Halted h, e)
   part-halts h e g = part-onward (Watched.Halted h, e) g
@@ -256,7 +256,7 @@ module _ (seal : ℕ → Bool) (bound k j : ℕ) (lines : Lines) (s : Machine) (
     pub part-stops : isMade (q .reason) ≡ false → guardedFull seal (bound - k) k lines s m ≡ (Watched.Ran q, e)
     part-stops f = part-onward (Watched.Ran q, e) g ∙ rw f
 
-    -- where they were not, all are made, and the run goes on from the machine that they left
+    -- if they were not, all are made, and the run goes on from the machine that they left
     pub part-made : isMade (q .reason) ≡ true → q .steps ≡ k + j
     part-made = subst (Counted seal lines (k + j)) (sym g) (guarded-counted seal lines j k s m)
 

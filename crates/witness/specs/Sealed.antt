@@ -110,12 +110,12 @@ module _ (seal : ℕ → Bool) (size bound : ℕ) (lines : Lines) (s : Machine) 
   unfolding longRun longGuarded
   long-meant = long-meant-by (eqb size fullMemory) refl
 
-  -- Where the watched run answers as a run, it is the run: the same reason, steps, registers, cycles and memory; and that run reads no sealed byte.
+  -- If the watched run answers as a run, it is the run: the same reason, steps, registers, cycles and memory; and that run reads no sealed byte.
   pub ran-right : (q : Ended) (e : List ℕ) → guarded seal size bound lines s m ≡ (Watched.Ran q, e)
       → Gives (run size bound lines s) m q e × Unsealed (Under seal) (listedRun size bound lines s m)
   ran-right q e h = subst (Meant bounded boundedList (run size bound lines s) (listedRun size bound lines s m)) h meant
 
-  -- Where it answers that it was halted, it made the steps that it counts, as the run does, and none of them reads a sealed byte; the next
+  -- If it answers that it was halted, it made the steps that it counts, as the run does, and none of them reads a sealed byte; the next
   -- step would read the address that it names, which is sealed.
   pub halted-right : (a j : ℕ) (t : Machine) (e : List ℕ) → guarded seal size bound lines s m ≡ (halted a j t, e)
       → Stopped bounded boundedList a j t e
@@ -177,7 +177,7 @@ module _ (seal : ℕ → Bool) (bound : ℕ) (lines : Lines) (s : Machine) (m₁
       → (r₁ ≡ r₂) × Differ (Under seal) e₁ e₂
   code-long-apart r₁ r₂ g₁ g₂ = moved seal lines (r₁, e₁) (r₂, e₂) _ _ (sym g₁) (sym g₂) (long-apart seal bound lines s m₁ m₂ d)
 
-  -- The oath. Where the watched run answered as a run, the unwatched run gives that same answer on every memory that differs only in sealed
+  -- The oath. If the watched run answered as a run, the unwatched run gives that same answer on every memory that differs only in sealed
   -- bytes, and the same bytes elsewhere; a sealed byte that was stored to is the same too, and any other sealed byte is what it was.
   pub oath : (q₁ q₂ : Ended)
       → (Watched.Ran q₁, e₁) ≡ guarded seal (length m₁) bound lines s m₁

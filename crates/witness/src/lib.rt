@@ -45,7 +45,7 @@ pub struct Halt {
     pub machine: Machine,
 }
 
-// What a watched run answers: the run's own answer, where no step read a sealed byte, or where it was halted.
+// What a watched run answers: the run's own answer, if no step read a sealed byte, or where it was halted.
 pub enum Watched {
     Ran(Ended),
     Halted(Halt),
@@ -71,7 +71,7 @@ impl Watched {
     }
 }
 
-// The first sealed address that the byte at the counter reads, where no line is due.
+// The first sealed address that the byte at the counter reads, if no line is due.
 fn ahead(pages: &[u8; 256], first: u16, last: u16, registers: Registers, memory: &[u8]) -> Seen
     requires { ⌜ length (now memory) ≡ fullMemory ⌝ }
     ensures { λ r.
@@ -81,7 +81,7 @@ fn ahead(pages: &[u8; 256], first: u16, last: u16, registers: Registers, memory:
     first_sealed(pages, first, last, reads_quiet(registers, memory))
 }
 
-// The machine after some steps of a patrol: where one was made it has the present level of NMI.
+// The machine after some steps of a patrol: if one was made it has the present level of NMI.
 fn kept(begun: bool, start: Machine, nmi: bool, registers: Registers, cycles: u64) -> Machine
     ensures { λ r. ⌜ r ≡ machineOf registers cycles (cond begun nmi (start .nmi)) ⌝ }
 {
@@ -257,7 +257,7 @@ pub fn watched_run(
     walk(machine, 0, bound, lines, pages, 1, 0, memory)
 }
 
-// The same where the addresses from a first to a last one are sealed; none where the last is below the first.
+// The same with the addresses from a first to a last one sealed; none if the last is below the first.
 pub fn watched_stretch(
     machine: Machine,
     bound: u64,

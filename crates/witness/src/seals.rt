@@ -10,7 +10,7 @@ pub enum Seen {
     At(u16),
 }
 
-// Whether an address lies in a marked page: a byte for each page, which is not 0 where it is sealed.
+// Whether an address lies in a marked page: a byte for each page, which is not 0 if it is sealed.
 fn in_pages(pages: &[u8; 256], place: u16) -> bool
     ensures { λ r. ⌜ r ≡ inPages (now (pages .entry)) place ⌝ }
 {

@@ -143,7 +143,7 @@ suits PHA mode = true
 suits PHP mode = true
 suits BRK mode = true
 
--- every entry of the table suits
+-- every row of the table suits
 pub entry-suits : (k : ℕ) (e : Entry) → decoded k ≡ Defined e → T (suits (e .instruction) (e .mode))
 unfolding rows
 entry-suits = every-entry (λ e. suits (e .instruction) (e .mode)) tt
@@ -280,7 +280,7 @@ stores-of-stores : (l : List ℕ) → storesOf (map storeAt l) ≡ l
 stores-of-stores [] = refl
 stores-of-stores (p ∷ l) = ap (λ (t : List ℕ). p ∷ t) (stores-of-stores l)
 
--- the reads and the stores where the stores come first
+-- the reads and the stores if the stores come first
 reads-after : (l k : List ℕ) → readsOf (map storeAt k ++ map readAt l) ≡ l
 reads-after l k = reads-append (map storeAt k) (map readAt l) ∙ rw (reads-of-stores k, reads-of-reads l)
 

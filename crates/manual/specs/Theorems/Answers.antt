@@ -1,4 +1,4 @@
--- Each line of the answer table (docs/RULES.md), 'given exactly when', for a step; and what is left behind.
+-- Each answer of the table (docs/RULES.md), 'given exactly when', for a step; and what is left behind.
 use Prim.Native.Nat.{ℕ, _≤_, _<_}
 use mathlib.Core.Path.{_≡_, refl, ap}
 use mathlib.Core.Logic.{_↔_, _⊎_, inl, inr, ⊎-elim}

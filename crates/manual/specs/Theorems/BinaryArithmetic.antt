@@ -32,7 +32,7 @@ unfolding outside
 decided (pos n) = by-test (λ t. Says t (pos n)) 128 n (λ h f. omega (arith, leb→le)) (λ h. omega (arith, le→leb))
 decided (negsuc n) = by-test (λ t. Says (t || false) (negsuc n)) 128 n (λ h f. omega (arith, leb→le)) (λ h. omega (arith, le→leb))
 
--- where `outside` is false, the number fits
+-- if `outside` is false, the number fits
 inside : (z : ℤ) → outside z ≡ false → FitsByte z
 inside z e = rw e at (decided z)
 
@@ -63,7 +63,7 @@ module _ (a m : ℕ) (c : Bool) (a-byte : a < 256) (m-byte : m < 256) where
   unfolding binarySum sumOverflows
   adc-overflow = outside-iff _
 
-  -- ADC: where V is clear, the result as a signed number is the signed sum
+  -- ADC: if V is clear, the result as a signed number is the signed sum
   pub adc-signed : binarySum a m c .overflow ≡ false → signed (binarySum a m c .result) ≡ signed a +ℤ signed m +ℤ pos (bit c)
   unfolding binarySum sumOverflows
   adc-signed v =
@@ -89,7 +89,7 @@ module _ (a m : ℕ) (c : Bool) (a-byte : a < 256) (m-byte : m < 256) where
   unfolding binaryDifference differenceOverflows
   sbc-overflow = outside-iff _
 
-  -- SBC: where V is clear, the result as a signed number is the signed difference
+  -- SBC: if V is clear, the result as a signed number is the signed difference
   pub sbc-signed :
       binaryDifference a m c .overflow ≡ false → signed (binaryDifference a m c .result) ≡ signed a -ℤ signed m -ℤ pos (bit (not c))
   unfolding binaryDifference differenceOverflows

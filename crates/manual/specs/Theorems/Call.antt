@@ -29,7 +29,7 @@ module _ (mode : AddressingMode) (r : Registers) (m : List ℕ) where
   unfolding accesses perform push pushAddress setS
   call-order = refl
 
-  -- Where no push lands on the high byte of the operand, JSR goes to the address that its operand named.
+  -- If no push lands on the high byte of the operand, JSR goes to the address that its operand named.
   pub call-elsewhere : (operand r 2 ≡ first → ⊥) → (operand r 2 ≡ second → ⊥)
       → exec (perform JSR mode r) m .0 .registers .counter ≡ joined (getD m (operand r 2) 0) (getD m (operand r 1) 0)
   unfolding perform push pushAddress setS setPC accesses

@@ -16,7 +16,7 @@ pub signed-complement : (m : ℕ) → m < 256 → signed (255 - m) ≡ negℤ (p
 signed-complement m h = same (of-byte (255 - m) (omega arith)) (sum (negated (natural 1)) (negated (of-byte m h))) (omega arith)
 
 module _ (a m : ℕ) (c : Bool) (a-byte : a < 256) (m-byte : m < 256) where
-  -- So the signed sum with the complement is the signed difference, and one overflows where the other does.
+  -- So the signed sum with the complement is the signed difference, and one overflows if the other does.
   pub overflow-complement : sumOverflows a (255 - m) c ≡ differenceOverflows a m c
   unfolding sumOverflows differenceOverflows
   overflow-complement =

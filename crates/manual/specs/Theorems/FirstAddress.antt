@@ -1,4 +1,4 @@
--- The address that is put out first (P8): the base's page with the sum's low byte, before the carry has reached the high byte.
+-- The first address on the bus (P8): the base's page with the sum's low byte, before the carry has reached the high byte.
 use Prim.Native.Nat.{ℕ, _+_, _≤_, _<_}
 use mathlib.Core.Path.{_≡_, refl, ap, sym, _∙_, subst}
 use mathlib.Core.Logic.{_↔_, _⊎_, ⊎-elim}
@@ -45,7 +45,7 @@ use Rattle.manual.specs.Theorems.Within.{Bytes}
 
 -- What is said of a target that has an address.
 pub record PutOut (t : Target) : Type 0 where
-  -- it is the final address exactly where no page is crossed
+  -- it is the final address exactly if no page is crossed
   pub same : (t .first ≡ t .address) ↔ (t .crossed ≡ false)
   -- and otherwise the final address less 0100, modulo 65,536
   pub less : t .crossed ≡ true → t .first ≡ addressOf (t .address + 0xFF00)
@@ -75,7 +75,7 @@ module _ (base index : ℕ) (base-address : base < 65536) (index-byte : index < 
 abbrev aimed : AddressingMode → Registers → List ℕ → Target
 aimed mode r m = exec (target mode r) m .0
 
--- The address that a mode puts out first, for every mode that has one.
+-- The first address of a mode, for every mode that has one.
 pub put-out : (mode : AddressingMode) (r : Registers) (m : List ℕ) → InRange r → Bytes m → T (addressed mode) → PutOut (aimed mode r m)
 unfolding target
 put-out Accumulator r m h b t = absurd t
@@ -94,7 +94,7 @@ put-out IndirectIndexedY r m h b t =
     let p = getD m (operand r 1) 0 in
     indexed-out _ (r .y) (omega (arith, b (joined 0 p), b (joined 0 (lowByte (p + 1))))) (h .y)
 
--- A mode that has none puts out 0000.
+-- A mode that has none gives 0000.
 pub none-out : (mode : AddressingMode) (r : Registers) (m : List ℕ) → T (not (addressed mode)) → aimed mode r m .first ≡ 0
 unfolding target
 none-out Accumulator r m t = refl
@@ -138,7 +138,7 @@ module _ (r : Registers) (m : List ℕ) where
   abbrev first : Effect × List ℕ → ℕ
   first w = w .0 .first
 
-  -- the address that an instruction puts out
+  -- the first address of an instruction
   abbrev putsOut : Instruction → AddressingMode → ℕ
   putsOut i mode = exec (perform i mode r) m .0 .first
 
@@ -163,7 +163,7 @@ module _ (r : Registers) (m : List ℕ) where
   modify-first k IndexedIndirectX = refl
   modify-first k IndirectIndexedY = refl
 
-  -- what the mode puts out, but for JSR
+  -- that of the mode, but for JSR
   out-first : (i : Instruction) (mode : AddressingMode) → T (outs i mode) → (i ≡ JSR → ⊥) → putsOut i mode ≡ aimed mode r m .first
   unfolding perform push pull pushAddress pullAddress enter
   out-first (Read k) mode t f = ap first (exec-bind (target mode r) _ m)
@@ -181,16 +181,16 @@ module _ (r : Registers) (m : List ℕ) where
   out-first PHP mode t f = sym (none-out mode r m t)
   out-first BRK mode t f = sym (none-out mode r m t)
 
-  -- JSR puts out the address that it goes to
+  -- JSR gives the address that it goes to
   call-first : (mode : AddressingMode) → putsOut JSR mode ≡ exec (perform JSR mode r) m .0 .registers .counter
   unfolding perform push pushAddress setS setPC
   call-first mode = refl
 
 -- ---- of a step
 
--- What a step puts out first whose opcode has the entry e.
+-- The first address of a step whose opcode has the row e.
 pub record StepFirst (e : Entry) (r : Registers) (m : List ℕ) (q : Stepped) : Type 0 where
-  -- where the mode has an address: the one that the mode puts out (`put-out`); JSR puts out where it goes
+  -- if the mode has an address: that of the mode (`put-out`); JSR gives where it goes
   pub address : T (addressed (e .mode)) → (e .instruction ≡ JSR → ⊥) → q .first ≡ aimed (e .mode) r m .first
   pub call : e .instruction ≡ JSR → q .first ≡ q .machine .registers .counter
   -- implied, accumulator, immediate and relative: 0000
@@ -220,7 +220,7 @@ module _ (size : ℕ) (lines : Lines) (s : Machine) (m : List ℕ) {q : Stepped}
       })
       (rw (step-whole size lines s f) at g)
 
-  -- A refused step and one that serves a line put out 0000.
+  -- A refused step and one that serves a line give 0000.
   pub step-none : (q .reason ≡ Made → ⊥) ⊎ Served lines s → q .first ≡ 0
   step-none = by-size (ℕ-discrete size fullMemory)
     where

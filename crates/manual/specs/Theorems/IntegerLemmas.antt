@@ -19,7 +19,7 @@ by-test P a b f g = go (decLe a b)
     go (yes h) = rw (le-leb a b h) (f h)
     go (no n) = let h : b < a = omega arith in rw (lt-leb a b h) (g h)
 
--- a flag that proves P where it is set, and refutes it where it is clear, is set exactly if P
+-- a flag that proves P if it is set, and refutes it if it is clear, is set exactly if P
 pub flag-iff : {P : Type 0} (t : Bool) → (t ≡ true → P) → (t ≡ false → ¬ P) → t ≡ true ↔ P
 flag-iff true f g = (f, λ p. refl)
 flag-iff false f g = (f, λ p. absurd (g refl p))

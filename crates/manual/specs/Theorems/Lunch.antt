@@ -77,7 +77,7 @@ module _ (k n : ℕ) (lines : Lines) (s : Machine) (m : List ℕ) (allowed : k +
   by-table (memory-not-full f) made g = let z : _≡_ {A = ℕ} 0 1 = cc in absurd (omega arith)
   by-table (bound-too-high e l) made g = let z : _≡_ {A = ℕ} 0 1 = cc in absurd (omega arith)
 
-  -- Where the first part answered 0, the two parts are the whole: same reason, machine and memory, and the steps add up.
+  -- If the first part answered 0, the two parts are the whole: same reason, machine and memory, and the steps add up.
   pub lunch : {q p : Ended} {m′ m″ : List ℕ} → Gives (run (length m) k lines s) m q m′ → q .reason ≡ Made
       → Gives (run (length m′) n lines (q .machine)) m′ p m″
       → Gives (run (length m) (k + n) lines s) m (ended (p .reason) (q .steps + p .steps) (p .machine)) m″
@@ -88,7 +88,7 @@ module _ (k n : ℕ) (lines : Lines) (s : Machine) (m : List ℕ) (allowed : k +
   by-refusal (memory-not-full f) g = run-short (length m) (k + n) lines s m f
   by-refusal (bound-too-high e l) f = absurd (omega arith)
 
-  -- Where the first part was stopped, its whole answer is the long run's.
+  -- If the first part was stopped, its whole answer is the long run's.
   pub stopped-before-lunch : {q : Ended} {m′ : List ℕ} → Gives (run (length m) k lines s) m q m′ → (q .reason ≡ Made → ⊥) → Gives (run (length m) (k + n) lines s) m q m′
   stopped-before-lunch g f = by-refusal (run-answers (length m) k lines s m .0 g) f
 

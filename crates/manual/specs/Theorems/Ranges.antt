@@ -99,7 +99,7 @@ served-within : (vector : ℕ) (r : Registers) → vector + 1 < 65536 → InRang
 unfolding served
 served-within vector r v h = enter-within (r .counter) (servedByte (r .status)) vector r (h .counter) (pushed-byte false (r .status)) v h
 
--- an effect in range, with at most so many extra cycles, and an address that is put out first
+-- an effect in range, with at most so many extra cycles, and a first address
 abbrev pub Ranged : ℕ → Effect → Type 0
 Ranged most f = InRange (f .registers) × (f .extra ≤ most) × (f .first < 65536)
 
@@ -167,7 +167,7 @@ pub record MachineInRange (from most : ℕ) (s : Machine) : Type 0 where
   pub registers : InRange (s .registers)
   pub cycles : s .cycles ≤ from + most
 
--- the cycles that a step may add: 7 where it was made, none where it was refused
+-- the cycles that a step may add: 7 if it was made, none if it was refused
 abbrev pub allowance : Reason → ℕ
 allowance reason = cond (isMade reason) 7 0
 
@@ -222,7 +222,7 @@ step-within : (size : ℕ) (lines : Lines) (s : Machine) → InRange (s .registe
 unfolding step
 step-within size lines s h = either (Within (StepInRange (s .cycles))) (eqb size fullMemory) _ _ (step-full-within lines s h) (unmoved (s .cycles) s h (omega arith))
 
--- A step from registers and bytes in range leaves them in range. It adds at most 7 to the cycle count, and nothing where it is refused.
+-- A step from registers and bytes in range leaves them in range. It adds at most 7 to the cycle count, and nothing if it is refused.
 pub step-ranges : (size : ℕ) (lines : Lines) (s : Machine) (m : List ℕ) → InRange (s .registers) → Bytes m
     → StepInRange (s .cycles) (exec (step size lines s) m .0) × Bytes (exec (step size lines s) m .1)
 step-ranges size lines s m h b = within-exec (StepInRange (s .cycles)) (step size lines s) m (step-within size lines s h) b

@@ -72,7 +72,7 @@ pub led-level : (k : ℕ) (lines : Lines) (s : Machine) (m : List ℕ) (s′ : M
 led-level zero lines s m s′ m′ h = ap (λ (q : Machine). q .nmi) (sym (h .4 .0)) ∙ recorded lines s m (h .2) (ap isMade (h .3))
 led-level (suc k) lines s m s′ m′ h = led-level k lines (h .0 .machine) (h .1) s′ m′ (h .4)
 
--- NMI is served at most once in a run, and only by its first step: where it falls, no step was made before.
+-- NMI is served at most once in a run, and only by its first step: if it falls, no step was made before.
 pub one-nmi : (k : ℕ) (lines : Lines) (s : Machine) (m : List ℕ) (s′ : Machine) (m′ : List ℕ) → Leads k lines s m s′ m′
     → falls lines s′ ≡ true → k ≡ 0
 one-nmi zero lines s m s′ m′ h f = refl
@@ -80,9 +80,9 @@ one-nmi (suc k) lines s m s′ m′ h f =
     let z : false ≡ true = sym (high-and-low (lines .nmi)) ∙ rw (led-level k lines s m s′ m′ h) at f in
     let y : _≡_ {A = ℕ} 0 1 = cc in absurd (omega arith)
 
--- ---- where no line is served
+-- ---- if no line is served
 
--- the opcode's part of a step: what a step was before there were lines, but for the level that it records
+-- the opcode's share of a step: what a step was before there were lines, but for the level that it records
 abbrev pub opcodeStep : Lines → Machine → Micro Stepped
 opcodeStep lines s = cond (ltb highestCount (s .cycles)) (done (refused NoCycleRoom s)) (attend Quiet lines s)
 
@@ -94,7 +94,7 @@ quiet-step lines s e = rw e
 pub idle-step : (s : Machine) → stepFull idle s ≡ opcodeStep idle s
 idle-step s = quiet-step idle s (due-none idle s (second-not (s .nmi) false refl) refl)
 
--- And with IRQ low and I set, where NMI does not fall.
+-- And with IRQ low and I set, if NMI does not fall.
 pub masked-step : (lines : Lines) (s : Machine) → falls lines s ≡ false → s .registers .status .disable ≡ true
     → stepFull lines s ≡ opcodeStep lines s
 masked-step lines s f i = quiet-step lines s (due-none lines s f (second-not (not (lines .irq)) _ (ap not i)))
@@ -126,7 +126,7 @@ module _ (lines₁ lines₂ : Lines) (r : Registers) (cycles : ℕ) (nmi₁ nmi�
       by-room true = refl
       by-room false = act-apart (decoded (getD m (r .counter) 0))
 
--- ---- where one is
+-- ---- if one is
 
 module _ (vector : ℕ) (r : Registers) (m : List ℕ) where
   -- the registers and the memory after a service
@@ -196,7 +196,7 @@ held-irq lines s m h =
     rw (step-serves lines s m (h .1 .0) (h .0) (h .1 .1) refl)
     (second-not (not (lines .irq)) _ (ap not (served-masks (h .1 .0) (s .registers) m)))
 
--- A step that serves a line reads the two bytes of its vector, in order, and nothing else; it puts out no address, and takes 7 cycles.
+-- A step that serves a line reads the two bytes of its vector, in order, and nothing else; it has no first address, and takes 7 cycles.
 pub served-reads : (lines : Lines) (s : Machine) (m : List ℕ) (vector : ℕ) → s .cycles ≤ highestCount → due lines s ≡ Through vector
     → reads (stepFull lines s) m ≡ vector ∷ (vector + 1) ∷ []
 served-reads lines s m vector h e = step-full-reads lines s m ∙ rw (le-ltb _ _ h, e)

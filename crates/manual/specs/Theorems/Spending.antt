@@ -146,7 +146,7 @@ refusal : (n until k : ℕ) (r : Reason) (lines : Lines) (s : Machine) (m : List
 refusal zero until k r lines s m e l f g = absurd (omega arith)
 refusal (suc n) until k r lines s m e l f g = spend-refused lines s m (refused r s) m g n until k l f
 
--- where the number of steps that are left is high enough
+-- if the number of steps that are left is high enough
 stop-gives : (n until k : ℕ) (r : Reason) (lines : Lines) (s : Machine) (m : List ℕ) → until ≤ s .cycles + n → Stops until lines s m r
     → Gives (spendFull n until k lines s) m (ended r k s) m
 stop-gives n until k r lines s m e (spent h) = spend-over n until k lines s m h
@@ -291,7 +291,7 @@ spread (suc k) until lines s m s′ m′ (q, m₁, l, g, made, h) =
     go-steps (yes e) rest takes = omega arith
     go-steps (no f) rest takes = let most = rest .steps (omega arith) in omega (arith, takes)
 
--- At most limit + 6 cycles are spent, none where the limit is 0, and at most half of limit + 1 steps made, rounded down; 2 cycles or more for
+-- At most limit + 6 cycles are spent, none if the limit is 0, and at most half of limit + 1 steps made, rounded down; 2 cycles or more for
 -- each step.
 pub record Counts (limit : ℕ) (s : Machine) (q : Ended) : Type 0 where
   pub cycles-least : s .cycles + 2 * q .steps ≤ q .machine .cycles

@@ -66,7 +66,7 @@ pub second-not : (a b : Bool) → b ≡ false → (a && b) ≡ false
 second-not true b e = e
 second-not false b e = refl
 
--- where there is room, a step is what is due
+-- if there is room, a step is what is due
 pub step-attends : (lines : Lines) (s : Machine) (d : Due) → s .cycles ≤ highestCount → due lines s ≡ d → stepFull lines s ≡ attend d lines s
 unfolding stepFull
 step-attends lines s d h e = rw (le-ltb _ _ h, e)
@@ -151,7 +151,7 @@ was-made BoundTooHigh e = let z : _≡_ {A = ℕ} 0 1 = cc in absurd (omega arit
 pub was-refused : (r : Reason) → isMade r ≡ false → r ≡ Made → ⊥
 was-refused r e p = let f : isMade Made ≡ false = rw p at e in let z : _≡_ {A = ℕ} 0 1 = cc in omega arith
 
--- of a run with a test: over where the test fails, and otherwise a step more or its refusal
+-- of a run with a test: over if the test fails, and otherwise a step more or its refusal
 pub while-over : (goes : Machine → Bool) (n k : ℕ) (lines : Lines) (s : Machine) (m : List ℕ) → goes s ≡ false
     → Gives (runWhile goes n k lines s) m (ended Made k s) m
 unfolding runWhile
