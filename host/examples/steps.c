@@ -1,5 +1,5 @@
 /* steps COUNT IMAGE: makes at most COUNT steps of an image one by one, from where the program report starts it, and prints
- * for each the counter before it, the cycles that it took, and the address that the part puts out first. The exit status is
+ * for each the counter before it, the cycles that it took, and the first address on the bus. The exit status is
  * the answer of the last step: 0 where all were made.
  *
  *     rt staticlib mos6502

@@ -15,12 +15,12 @@ extern "C" {
 #endif
 
 /* The number of addresses that a step from here reads, at most 5. All five of `places` are written: these addresses in the
- * order of the step, then zeros. An address that it reads twice is there twice. None is read where length is not 65,536 or there
- * is no room for the cycles, and only the opcode where that is not documented. Nothing is changed. */
+ * order of the step, then zeros. An address that it reads twice is there twice. None is read if length is not 65,536 or there
+ * is no room for the cycles, and only the opcode if that is not documented. Nothing is changed. */
 size_t mos6502_reads(uint64_t registers, uint64_t cycles, uint8_t lines, const uint8_t *memory, size_t length,
                      uint16_t *places);
 
-/* The same of the addresses that it stores to, at most 3: none where the step is refused. */
+/* The same of the addresses that it stores to, at most 3: none if the step is refused. */
 size_t mos6502_stores(uint64_t registers, uint64_t cycles, uint8_t lines, const uint8_t *memory, size_t length,
                       uint16_t *places);
 

@@ -1,5 +1,5 @@
-/* Paper tapes and Intel HEX, proved, for a host in C or C++: link target/staticlib/libtapes_c.a, which `rt staticlib tapes_c` writes for
- * x86-64.
+/* Paper tapes and Intel HEX, proved, for a host in C or C++: link target/staticlib/libtapes_c.a, which `rt staticlib tapes_c`
+ * writes for x86-64.
  *
  * In each call the texts, the memory and the numbers must not overlap, and nobody else may use them meanwhile. Every number
  * that is lent is written.
@@ -22,15 +22,15 @@ extern "C" {
  *   8  its number of data records is wrong, or there is no end record
  *   0  the whole tape is good, and its records are stored, a later one over an earlier one
  * A refusal, any answer but 0, leaves the memory as it was. *good is the number of good records before the first bad one, the
- * end record counted, and *place the offset at which that begins; where there is none, of all records, and the text's length.
- * With the answer 1 both are 0. */
+ * end record counted, and *place the offset at which that begins. If no record is bad, *good counts all of them and *place is
+ * text_length. With the answer 1 both are 0. */
 uint8_t tape_load(const uint8_t *text, size_t text_length, uint8_t *memory, size_t memory_length, uint64_t *good,
                   size_t *place);
 
 /* Reads Intel HEX, types 00 and 01, onto a memory, as tape_load reads a tape and with its answers. Here
  *   5  is also the answer for another type, for a data record without data, and for an end record other than `:00000001FF`
  *      whose sum is right
- *   8  for a 65,536th data record, or where there is no end record */
+ *   8  for a 65,536th data record, or if there is no end record */
 uint8_t hex_load(const uint8_t *text, size_t text_length, uint8_t *memory, size_t memory_length, uint64_t *good,
                  size_t *place);
 
@@ -39,7 +39,7 @@ uint8_t hex_load(const uint8_t *text, size_t text_length, uint8_t *memory, size_
  *   5, 6, 7, 8  as tape_load
  *  10  the HEX has more than out_length characters; twice text_length is always enough
  *   0  the whole tape is good, and its HEX stands at the start of out
- * *size is the length of the HEX, 0 where it is refused. What stands after it is as it was; a refusal writes nothing to out.
+ * *size is the length of the HEX, 0 if it is refused. What stands after it is as it was; a refusal writes nothing to out.
  * *good and *place are as in tape_load. */
 uint8_t tape_to_hex(const uint8_t *text, size_t text_length, uint8_t *out, size_t out_length, size_t *size, uint64_t *good,
                     size_t *place);
@@ -53,7 +53,7 @@ uint8_t hex_to_tape(const uint8_t *text, size_t text_length, uint8_t *out, size_
  *   9  first is above last
  *  10  the tape has more than text_length characters; 166,588 are always enough
  *   0  the tape stands at the start of the text
- * *size is the length of the tape, 0 where it is refused. What stands after it is as it was. */
+ * *size is the length of the tape, 0 if it is refused. What stands after it is as it was. */
 uint8_t tape_punch(const uint8_t *memory, size_t memory_length, uint16_t first, uint16_t last, uint8_t *text,
                    size_t text_length, size_t *size);
 
@@ -62,7 +62,7 @@ uint8_t tape_punch(const uint8_t *memory, size_t memory_length, uint16_t first, 
  *  10  the new tape has more than out_length characters
  *   0  it stands at the start of out
  * *size is its length, *kept the number of records in it, *dropped the number of `;` that begin neither a kept record nor a
- * good end record, and *first the offset of the first of these, text_length where there is none. Where it is refused all
+ * good end record, and *first the offset of the first of these, text_length if there is none. If it is refused all
  * four are 0, and nothing is written. */
 uint8_t tape_rescue(const uint8_t *text, size_t text_length, uint8_t *out, size_t out_length, size_t *size, uint64_t *kept,
                     uint64_t *dropped, size_t *first);

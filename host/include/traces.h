@@ -13,15 +13,15 @@
 extern "C" {
 #endif
 
-/* Checks lines that hold the last seven fields of report's line, LF after each: CYCLES COUNTER A X Y S STATUS, the cycles in
- * decimal without leading zeros, the others in capital hexadecimal. The first may be any state; every later one has to be the
- * state after one step from the line before, with idle interrupt lines. copy starts as the image and is left as the accepted
- * lines leave it. It answers, the first that holds, 11 and 12 at the first bad line:
+/* Checks a log. Its entries are text lines that hold the last seven fields of report's line, LF after each: CYCLES COUNTER A X
+ * Y S STATUS, the cycles in decimal without leading zeros, the others in capital hexadecimal. The first entry may be any state;
+ * every later one has to be the state after one step from the entry before, with idle interrupt lines. copy starts as the image
+ * and is left as the accepted entries leave it. It answers, the first that holds, 11 and 12 at the first bad entry:
  *   1  image_length or copy_length is not 65,536; nothing is written to copy
- *  11  the line is malformed or cut short, or there is none
- *  12  it is not the state after a step from the line before, or no step can be made there
- *   0  there is a line, and every later one follows
- * *line is the number of the first bad line, counted from 1, and 0 with the answers 0 and 1. A log of one line is accepted. */
+ *  11  the entry is malformed or cut short, or there is none
+ *  12  it is not the state after a step from the entry before, or no step can be made there
+ *   0  there is an entry, and every later one follows
+ * *line is the number of the first bad entry, counted from 1, and 0 with the answers 0 and 1. A log of one entry is accepted. */
 uint8_t trace_check(const uint8_t *image, size_t image_length, const uint8_t *lines, size_t lines_length, uint8_t *copy,
                     size_t copy_length, size_t *line);
 

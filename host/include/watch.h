@@ -15,12 +15,12 @@
 extern "C" {
 #endif
 
-/* What a watched run answers where it was halted. */
+/* What a watched run answers if it was halted. */
 enum { MOS6502_HALTED = 13 };
 
-/* At most `bound` steps, as mos6502_run makes them, with a sealed part of the memory. Before each step it looks at the bytes that
- * the step would read; where one is sealed it is halted, and the step is not made. `pages` has 256 bytes, one for each page of
- * the memory, which is sealed where its byte is not 0. A store to a sealed address is no read, and a byte that the run itself
+/* At most `bound` steps, as mos6502_run makes them, with some of the memory sealed. Before each step it looks at the bytes that the
+ * step would read; if one is sealed it is halted, and the step is not made. `pages` has 256 bytes, one for each page of the
+ * memory, which is sealed if its byte is not 0. A store to a sealed address is no read, and a byte that the run itself
  * stored there is sealed all the same. A line that is served reads its vector. It answers, the first that holds:
  *   1  length is not 65,536
  *   4  bound is above 1,000,000
@@ -29,15 +29,15 @@ enum { MOS6502_HALTED = 13 };
  *  13  it would read a sealed byte
  *   3  no line is served, and the byte at the counter is none of the 151 documented opcodes
  *   0  all `bound` steps were made; the program was still running, and nothing says that it finished
- * *steps is written, with the number of steps made, and *place, with the first sealed address that the next step would read, 0
- * with every answer but 13. The numbers and the memory are those after the steps made; where none was made, they are as they
- * were, the registers' number to the bit. No number that comes back depends on a sealed byte, and no byte that is left at any
- * other address. The sealed bytes themselves are still in the memory, as they were or as the run stored them: a host that
- * writes the memory out hands them out. Put zeros there before the run; none of them is read, so no answer changes. */
+ * *steps is the number of steps made, and *place the first sealed address that the next step would read, 0 with every answer
+ * but 13. The numbers and the memory are those after the steps made; if none was made, they are as they were, the registers'
+ * number to the bit. No number that comes back depends on a sealed byte, and no byte that is left at any other address. The
+ * sealed bytes themselves are still in the memory, as they were or as the run stored them: a host that writes the memory out
+ * hands them out. Put zeros there before the run; none of them is read, so no answer changes. */
 uint8_t mos6502_watched_run(uint64_t *registers, uint64_t *cycles, uint64_t *steps, uint16_t *place, uint64_t bound,
                             uint8_t lines, const uint8_t *pages, uint8_t *memory, size_t length);
 
-/* The same where the addresses from `first` to `last` are sealed; none where `last` is below `first`. */
+/* The same with the addresses from `first` to `last` sealed; none if `last` is below `first`. */
 uint8_t mos6502_watched_stretch(uint64_t *registers, uint64_t *cycles, uint64_t *steps, uint16_t *place, uint64_t bound,
                                 uint8_t lines, uint16_t first, uint16_t last, uint8_t *memory, size_t length);
 

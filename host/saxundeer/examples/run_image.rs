@@ -1,5 +1,5 @@
 //! run_image STOP LIMIT IMAGE: runs an image as the program `report` does, but for LIMIT steps, any number of them, and
-//! prints its line. The exit status is that of `./run report --stop STOP`: 0 only where it ended at STOP.
+//! prints its line. The exit status is that of `./run report --stop STOP`: 0 only if it ended at STOP.
 
 use std::fs;
 use std::io::{self, Write};

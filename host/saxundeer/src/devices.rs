@@ -28,15 +28,15 @@
 //!
 //! The byte that it is told is the one that stands there after the step: no step stores to one address twice.
 //!
-//! It is not the part's bus. The limits:
+//! It is not the bus of the 6502. The limits:
 //!
-//! - a device is asked before the step and told after it, not in the cycle in which the part would. So it is asked first also
-//!   where the part stores first, as BRK and a line that is served do before they read their vector;
+//! - a device is asked before the step and told after it, not in the cycle in which the 6502 would. So it is asked first also
+//!   if the 6502 stores first, as BRK and a line that is served do before they read their vector;
 //! - an address that a step reads twice is asked once, and the step reads the same byte both times;
-//! - the reads of the part whose byte it does not use are not asked;
-//! - an instruction that reads, changes and stores (INC, ASL ..) reads once and stores once, where the part stores twice, first
+//! - the reads of the 6502 whose byte it does not use are not asked;
+//! - an instruction that reads, changes and stores (INC, ASL ..) reads once and stores once, while the 6502 stores twice, first
 //!   the old byte;
-//! - a step that is refused since there is no documented opcode has asked for that byte, where it lies in the range;
+//! - a step that is refused since there is no documented opcode has asked for that byte, if it lies in the range;
 //! - a JSR that pushes onto its own last operand byte takes the byte that it pushed, though the device was asked for one.
 
 use core::ops::RangeInclusive;

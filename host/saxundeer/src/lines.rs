@@ -1,6 +1,6 @@
 //! The interrupt lines.
 
-/// The level of a line. Both lines of the part are at rest while they are high.
+/// The level of a line. Both lines of the 6502 are at rest while they are high.
 #[derive(Clone, Copy, Debug, PartialEq, Eq)]
 pub enum Level {
     High,
@@ -43,7 +43,7 @@ impl Lines {
 }
 
 impl Level {
-    /// Set where it is low, as in the numbers of the C functions.
+    /// Set if it is low, as in the numbers of the C functions.
     #[inline]
     pub(crate) fn bit(self) -> u8 {
         match self {

@@ -32,8 +32,8 @@ impl Machine {
         }
     }
 
-    /// What the part's reset line does, as in mos6502: S is lowered by three, I is set, the counter is the address at FFFC, and
-    /// the last level of NMI is high. None where the memory is not `MEMORY_SIZE` long.
+    /// What the reset line of the 6502 does, as in mos6502: S is lowered by three, I is set, the counter is the address at FFFC, and
+    /// the last level of NMI is high. None if the memory is not `MEMORY_SIZE` long.
     #[must_use]
     pub fn reset(mut self, memory: &[u8]) -> Option<Machine> {
         if memory.len() != MEMORY_SIZE {
@@ -48,7 +48,7 @@ impl Machine {
     }
 
     /// As the program `report` starts an image: the counter is the address at FFFC, A, X and Y are 00, S is FF, only I is
-    /// set, no cycle is counted, and the last level of NMI is high. None where the memory is not `MEMORY_SIZE` long.
+    /// set, no cycle is counted, and the last level of NMI is high. None if the memory is not `MEMORY_SIZE` long.
     #[must_use]
     pub fn start(memory: &[u8]) -> Option<Machine> {
         let mut machine = Machine::new().reset(memory)?;

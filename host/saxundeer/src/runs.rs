@@ -28,7 +28,7 @@ pub enum RunAnswer {
     BoundTooHigh(Progress),
 }
 
-/// At most `bound` steps with the lines at these levels in all of them, and `BoundTooHigh` where that is above
+/// At most `bound` steps with the lines at these levels in all of them, and `BoundTooHigh` if that is above
 /// `HIGHEST_BOUND`. NMI is served in the first of the steps or in none.
 pub fn run(machine: Machine, bound: u64, lines: Lines, memory: &mut [u8]) -> RunAnswer {
     run_by(functions::mos6502_run, machine, bound, lines, memory)
@@ -40,7 +40,7 @@ pub fn long_run(machine: Machine, bound: u64, lines: Lines, memory: &mut [u8]) -
 }
 
 /// A run by cycles: before each step it looks whether `limit` or more are spent, and is over once they are. It spends at most
-/// `limit` + 6, none where `limit` is 0, and makes at most (`limit` + 1) / 2 steps; `BoundTooHigh` where `limit` is above
+/// `limit` + 6, none if `limit` is 0, and makes at most (`limit` + 1) / 2 steps; `BoundTooHigh` if `limit` is above
 /// `HIGHEST_BOUND`. All else is as in `run`: it is that run with the number of steps that were made.
 ///
 /// ```

@@ -11,9 +11,9 @@ pub const HIGHEST_CYCLES: u64 = u64::MAX - 7;
 #[must_use = "a step may be refused: only Made has made it"]
 #[derive(Clone, Copy, Debug, PartialEq, Eq)]
 pub enum StepAnswer {
-    /// The machine after the step, and the address that the part puts out first: where an index is added to an address of
-    /// two bytes, the base's high byte with the sum's low byte; in every other mode that has an address, the final one; 0
-    /// where the mode has none (implied, accumulator, immediate, branch) and where a line is served.
+    /// The machine after the step, and the first address on the bus: if an index is added to an address of two bytes, the
+    /// base's high byte with the sum's low byte; in every other mode that has an address, the final one; 0 if the mode has none
+    /// (implied, accumulator, immediate, branch) and if a line is served.
     Made { machine: Machine, first: u16 },
     /// The memory is not `MEMORY_SIZE` long.
     MemoryNotFull(Machine),
@@ -23,8 +23,8 @@ pub enum StepAnswer {
     NotAnOpcode(Machine),
 }
 
-/// One step. It serves NMI where that falls, otherwise IRQ where that is low and I is clear, otherwise the opcode at the
-/// counter. To serve a line takes 7 cycles and reads no opcode: the counter and the status, bit 4 clear and bit 5 set, are
+/// One step. It serves NMI if that falls, otherwise IRQ if that is low and I is clear; otherwise it carries out the opcode at
+/// the counter. To serve a line takes 7 cycles and reads no opcode: the counter and the status byte, bit 4 clear and bit 5 set, are
 /// pushed, I is set, and the counter becomes the address at FFFA for NMI, at FFFE for IRQ. A refusal changes no byte.
 #[inline]
 pub fn single_step(machine: Machine, lines: Lines, memory: &mut [u8]) -> StepAnswer {
@@ -53,7 +53,7 @@ pub fn single_step(machine: Machine, lines: Lines, memory: &mut [u8]) -> StepAns
 }
 
 impl Machine {
-    /// One step as by [`single_step`], on a machine that is kept in a record: it is renewed, and stays as it was where the step
+    /// One step as by [`single_step`], on a machine that is kept: it is renewed, and stays as it was if the step
     /// is refused. The answer is the same.
     #[inline]
     pub fn step(&mut self, lines: Lines, memory: &mut [u8]) -> StepAnswer {

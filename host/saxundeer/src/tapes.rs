@@ -220,7 +220,7 @@ pub fn punch(memory: &[u8], first: u16, last: u16, text: &mut [u8]) -> Result<us
     }
 }
 
-/// What was saved of a torn tape. Only where `dropped` is 0 is the new tape the whole of it.
+/// What was saved of a torn tape. The new tape is the whole of it only if `dropped` is 0.
 #[must_use = "a rescued tape may not be the whole tape: see dropped"]
 #[derive(Clone, Copy, Debug, PartialEq, Eq)]
 pub struct Saved {
@@ -228,7 +228,7 @@ pub struct Saved {
     pub size: usize,
     pub kept: u64,
     pub dropped: u64,
-    /// Where the first dropped record begins; the text's length where there is none.
+    /// Where the first dropped record begins; the text's length if there is none.
     pub first_dropped: usize,
 }
 

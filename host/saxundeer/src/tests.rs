@@ -171,7 +171,7 @@ fn a_load_is_made() {
     assert_eq!(single_step(start(), Lines::IDLE, &mut memory), made);
 }
 
-/// The address that a step with X 20 and Y 20 puts out first; at F0 stands the address 10F0.
+/// The first address on the bus of a step with X 20 and Y 20; at F0 stands the address 10F0.
 fn first_of(code: &[u8]) -> u16 {
     let mut memory = memory_with(code);
     memory[0x00F0..0x00F2].copy_from_slice(&[0xF0, 0x10]);

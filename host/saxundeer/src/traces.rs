@@ -22,18 +22,18 @@ unsafe extern "C" {
     ) -> u8;
 }
 
-/// Why a trace was not accepted, with the first bad line, counted from 1.
+/// Why a trace was not accepted, with the number of the first bad entry, counted from 1.
 #[derive(Clone, Copy, Debug, PartialEq, Eq)]
 pub enum Bad {
     /// The image or the copy is not `MEMORY_SIZE` long; nothing was written.
     MemoryNotFull,
-    /// The line is malformed or cut short, or there is none.
+    /// The entry is malformed or cut short, or there is none.
     Malformed(usize),
-    /// It is not the state after a step from the line before, or no step can be made there.
+    /// It is not the state after a step from the entry before, or no step can be made there.
     Astray(usize),
 }
 
-/// Checks a trace against an image. `copy` starts as the image and is left as the accepted lines leave it.
+/// Checks a trace against an image. `copy` starts as the image and is left as the accepted entries leave it.
 pub fn check(image: &[u8], lines: &[u8], copy: &mut [u8]) -> Result<(), Bad> {
     let mut line = 0;
     // Sound: the number is this function's own, the slices are lent to it, and the lengths are theirs.

@@ -197,7 +197,7 @@ fn over_stretch(
     numbers.watched(answer)
 }
 
-/// The same where the addresses of a range are sealed.
+/// The same with the addresses of a range sealed.
 pub fn watched_stretch(
     machine: Machine,
     bound: u64,
@@ -260,13 +260,13 @@ fn footprint(function: Lister, machine: Machine, lines: Lines, memory: &[u8]) ->
     Footprint { count, places }
 }
 
-/// The addresses that a step from here reads, in order; none where it is refused before it reads the opcode.
+/// The addresses that a step from here reads, in order; none if it is refused before it reads the opcode.
 #[must_use]
 pub fn reads_of(machine: Machine, lines: Lines, memory: &[u8]) -> Footprint {
     footprint(mos6502_reads, machine, lines, memory)
 }
 
-/// The addresses that a step from here stores to, in order; none where it is refused.
+/// The addresses that a step from here stores to, in order; none if it is refused.
 #[must_use]
 pub fn stores_of(machine: Machine, lines: Lines, memory: &[u8]) -> Footprint {
     footprint(mos6502_stores, machine, lines, memory)

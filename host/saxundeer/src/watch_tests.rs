@@ -251,7 +251,7 @@ fn what_reads_and_stores_asks_once_and_tells_once() {
 
 #[test]
 fn a_byte_of_the_device_decides_what_is_read_next() {
-    // JMP ($D0FF): the high byte comes from D000, as on the part; then the byte there is asked as an opcode, and its operand.
+    // JMP ($D0FF): the high byte comes from D000, as on the 6502; then the byte there is asked as an opcode, and its operand.
     let code = [0x6C, 0xFF, 0xD0];
     let (calls, answer) = calls_of(&code, 2, &[0x10, 0xD0, 0xA9, 0x2A]);
     assert_eq!(calls, [Get(0xD0FF), Get(0xD000), Get(0xD010), Get(0xD011)]);
