@@ -21,6 +21,8 @@ cd "$(dirname "$0")/.." || exit 2
 
 # A program for another machine takes that machine's C compiler, which links too, and an emulator to run it.
 cross='' emulator='' compiler=cc
+# What a command wants besides release code.
+besides=''
 if [ "$machine" != "$(uname -m)" ]; then
     compiler=$machine-linux-gnu-gcc
     cross="--target $machine-unknown-linux-gnu -C linker=$compiler"
@@ -48,7 +50,7 @@ find_rustc() {
 compile() {
     # The options are split into their words on purpose.
     # shellcheck disable=SC2086
-    "$rustc" $cross -C opt-level=3 -L dependency="$out" "$@"
+    "$rustc" $cross -C opt-level=3 $besides -L dependency="$out" "$@"
 }
 
 # rust CRATE FILE ROOT OPTION...: one of the workspace's crates.
@@ -125,7 +127,7 @@ find_archive() {
         renew "$found" "rt staticlib $member"
     else
         found=$out/lib$member.a
-        renew "$found" "host/native-archive $member"
+        renew "$found" "host/native-archive $member $machine"
     fi
     [ -f "$found" ] || stop 2 "there is no archive $found"
     [ "$1" != "$main" ] || archive=$found
