@@ -3,8 +3,8 @@
 use std::collections::BTreeMap;
 use std::process::ExitCode;
 
-/// What a command is called, its usage line, its options with a number, and those without.
-pub struct Command<'a> {
+/// What a program is called, its usage line, its options with a number, and those without.
+pub struct Program<'a> {
     name: &'a str,
     usage: &'a str,
     numbers: &'a [&'a str],
@@ -16,15 +16,15 @@ pub struct Options {
     marks: Vec<String>,
 }
 
-impl<'a> Command<'a> {
+impl<'a> Program<'a> {
     #[must_use]
     pub fn new(
         name: &'a str,
         usage: &'a str,
         numbers: &'a [&'a str],
         marks: &'a [&'a str],
-    ) -> Command<'a> {
-        Command {
+    ) -> Program<'a> {
+        Program {
             name,
             usage,
             numbers,

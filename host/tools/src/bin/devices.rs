@@ -16,7 +16,7 @@ use oracle::rules;
 use oracle::state::{RUST_AND_PORT, State, difference};
 use saxundeer::devices::{Device, step_with};
 use saxundeer::{Lines, StepAnswer};
-use tools::options::{Command, Options};
+use tools::options::{Options, Program};
 use tools::states::{machine_of, state_of};
 
 const USAGE: &str = "usage: host/devices [--seed N] [--steps N] [--plant] [ARCHIVE]";
@@ -219,5 +219,5 @@ fn run(options: &Options) -> ExitCode {
 }
 
 fn main() -> ExitCode {
-    Command::new("devices", USAGE, &["--seed", "--steps"], &["--plant"]).run(run)
+    Program::new("devices", USAGE, &["--seed", "--steps"], &["--plant"]).run(run)
 }

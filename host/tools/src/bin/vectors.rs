@@ -14,7 +14,7 @@ use oracle::recorder::Core;
 use oracle::rules::{self, Entry};
 use oracle::state::{HIGHEST_COUNT, State};
 use oracle::sums;
-use tools::options::{Command, Options};
+use tools::options::{Options, Program};
 
 const USAGE: &str = "usage: host/vectors [--seed N] [--count N]";
 /// The edges, and the sums as one class more.
@@ -278,5 +278,5 @@ fn vectors(options: &Options) -> ExitCode {
 }
 
 fn main() -> ExitCode {
-    Command::new("vectors", USAGE, &["--seed", "--count"], &[]).run(vectors)
+    Program::new("vectors", USAGE, &["--seed", "--count"], &[]).run(vectors)
 }

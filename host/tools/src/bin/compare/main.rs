@@ -18,7 +18,7 @@ use oracle::edges;
 use oracle::known;
 use oracle::random::Random;
 use oracle::rules;
-use tools::options::{Command, Options};
+use tools::options::{Options, Program};
 
 use counts::{ByCycles, Calls, Firsts};
 use fault::{Fault, PLANTS, Plant};
@@ -276,5 +276,5 @@ fn compare(options: &Options) -> ExitCode {
 
 fn main() -> ExitCode {
     let marks = PLANTS.map(|(mark, _)| mark);
-    Command::new("compare", USAGE, &["--seed", "--steps"], &marks).run(compare)
+    Program::new("compare", USAGE, &["--seed", "--steps"], &marks).run(compare)
 }

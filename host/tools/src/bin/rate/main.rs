@@ -11,7 +11,7 @@ use oracle::loops::{self, Loop};
 use oracle::state::{RUST_AND_PORT, byte_difference, difference};
 use oracle::timed::{Run, time_rust};
 use saxundeer::{Lines, RunAnswer};
-use tools::options::{Command, Options};
+use tools::options::{Options, Program};
 use tools::states::{machine_of, state_of};
 use tools::ways::{self, Way};
 
@@ -171,5 +171,5 @@ fn rate(options: &Options) -> ExitCode {
 }
 
 fn main() -> ExitCode {
-    Command::new("rate", USAGE, &[], &["--growth"]).run(rate)
+    Program::new("rate", USAGE, &[], &["--growth"]).run(rate)
 }

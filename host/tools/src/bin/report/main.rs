@@ -13,7 +13,7 @@ use oracle::images::{self, KINDS};
 use oracle::known;
 use oracle::random::Random;
 use oracle::rules;
-use tools::options::{Command, Options};
+use tools::options::{Options, Program};
 
 use lines::Report;
 
@@ -319,5 +319,5 @@ fn report(options: &Options) -> ExitCode {
 }
 
 fn main() -> ExitCode {
-    Command::new("report", USAGE, &["--seed", "--images"], &["--plant"]).run(report)
+    Program::new("report", USAGE, &["--seed", "--images"], &["--plant"]).run(report)
 }

@@ -16,7 +16,7 @@ use std::path::Path;
 use std::process::ExitCode;
 
 use oracle::random::Random;
-use tools::options::{Command, Options};
+use tools::options::{Options, Program};
 
 use comparison::{Comparison, PLANTS, Plant};
 use fault::Fault;
@@ -113,7 +113,7 @@ fn tapes(options: &Options) -> ExitCode {
 
 fn main() -> ExitCode {
     let marks = PLANTS.map(|(mark, _)| mark);
-    Command::new(
+    Program::new(
         "tapes",
         USAGE,
         &["--seed", "--images", "--stretches"],

@@ -13,7 +13,7 @@ use oracle::loops;
 use oracle::random::Random;
 use oracle::state::{self, State};
 use saxundeer::traces::{self, Bad};
-use tools::options::{Command, Options};
+use tools::options::{Options, Program};
 
 use damage::DAMAGES;
 use logs::Log;
@@ -434,5 +434,5 @@ fn traces(options: &Options) -> ExitCode {
 
 fn main() -> ExitCode {
     let marks = PLANTS.map(|(mark, _)| mark);
-    Command::new("traces", USAGE, &["--seed", "--images", "--steps"], &marks).run(traces)
+    Program::new("traces", USAGE, &["--seed", "--images", "--steps"], &marks).run(traces)
 }
