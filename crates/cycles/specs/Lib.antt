@@ -1,1 +1,1 @@
-pub mod Lifting
+pub mod Budget

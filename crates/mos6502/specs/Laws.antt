@@ -1,20 +1,19 @@
 -- A step and a run on numbers: what a turn and a run give on a full memory, and what the tests before them refuse.
-use Prim.Native.Nat.{ℕ, zero, suc, _+_, _-_, _≤_, _<_}
+use Prim.Native.Nat.{ℕ, zero, suc, _+_, _≤_, _<_}
 use mathlib.Core.Bool.{Bool, true, false, cond}
 use mathlib.Core.Path.{_≡_, refl, ap, sym, _∙_}
 use mathlib.Core.List.{List, []}
 use native.Mathlib.Omega.{arith}
 use borrow.Author.Tests.{lt-ltb, le-ltb}
-use lib.Dec.{eqb, leb, ltb}
+use lib.Dec.{ltb}
 use Rattle.packing.specs.Packed.{packed}
 use Rattle.manual.specs.declared.Lines.{Lines}
 use Rattle.manual.specs.declared.Machine.{Machine}
-use Rattle.manual.specs.declared.Stepped.{Stepped}
 use Rattle.manual.specs.declared.Ended.{Ended}
 use Rattle.manual.specs.declared.Reason.{Reason}
 use Rattle.manual.specs.declared.Reason.the-variants.{Made, MemoryNotFull, NoCycleRoom, NotAnOpcode, BoundTooHigh}
-use Rattle.manual.specs.Micro.{Micro, done, exec, _>>=_, Gives}
-use Rattle.manual.specs.Outcomes.{number, isMade, stepped, ended}
+use Rattle.manual.specs.Micro.{exec, Gives}
+use Rattle.manual.specs.Outcomes.{number, isMade, stepped}
 use Rattle.manual.specs.Interrupts.{due}
 use Rattle.manual.specs.Stepping.{fullMemory, highestBound, step, runFull, run, longRun, spendFull, runCycles}
 use Rattle.manual.specs.Theorems.Programs.{then, exec-bind}
@@ -23,10 +22,9 @@ use Rattle.manual.specs.Theorems.RunAnswers.{Ends, all-made, no-cycle-room, not
 use Rattle.manual.specs.Theorems.Spending.{cycles-short, cycles-long, cycles-whole}
 use Rattle.cpu.specs.declared.Travelled.{Travelled}
 use Rattle.cpu.specs.Travelling.{travelled, travelling, travel-run}
-use Rattle.cpu.specs.Turning.{levelled, turning, settles, settled, turned, one-step, turn-step}
-use Rattle.cycles.specs.Lifting.{lift, lifted, lowered, lifted-least, lifted-spent, lifted-unspent}
+use Rattle.cpu.specs.Turning.{turning, settled, turned, one-step, turn-step}
 use Rattle.numbers.specs.Machines.{machineFrom, linesFrom, registersAfter, cyclesAfter}
-use Rattle.mos6502.specs.Numbers.{StepNumbers, RunNumbers, stepNumbers, runNumbers, stepOnNumbers, runOnNumbers, longRunOnNumbers, runCyclesOnNumbers, runFullOnNumbers, turnOnNumbers}
+use Rattle.mos6502.specs.Numbers.{StepNumbers, RunNumbers, runNumbers, stepOnNumbers, runOnNumbers, longRunOnNumbers, runCyclesOnNumbers, runFullOnNumbers, turnOnNumbers}
 
 -- a run of one has made a step exactly if it answers so
 one-made : {lines : Lines} {s : Machine} {m : List ℕ} {q : Ended} {m′ : List ℕ} → Ends 1 lines s m q m′ → isMade (q .reason) ≡ ltb 0 (q .steps)
@@ -107,6 +105,13 @@ module _ (lines registers cycles : ℕ) (m : List ℕ) where
   unfolding longRunOnNumbers runFullOnNumbers
   long-run-on-full size bound f g = rw (long-whole size bound present start f) g
 
+  pub spend-gives : (size limit : ℕ) {q : Ended} {m′ : List ℕ} → size ≡ fullMemory → limit ≤ highestBound
+      → Gives (spendFull limit (cycles + limit) 0 present start) m q m′
+      → Gives (runCyclesOnNumbers size limit lines registers cycles) m (runNumbers registers cycles q) m′
+  unfolding runCyclesOnNumbers
+  spend-gives size limit f h g =
+      rw (cycles-whole size limit present start [] f h) (then (spendFull limit (cycles + limit) 0 present start) _ m g refl)
+
   -- what a turn of one leaves
   abbrev pub oneStep : Travelled → StepNumbers
   oneStep w = record {
@@ -135,60 +140,6 @@ module _ (lines registers cycles : ℕ) (m : List ℕ) where
       ∙ ap (λ (k : ℕ). (record { answer = number (w .0 .ended .reason); first = w .0 .first; registers = k; cycles = cyclesAfter t (settled start (w .0 .ended) .machine) cycles }, w .1)) (picked numberOf t (w .0 .ended .machine) start registers)
       ∙ ap (λ (k : ℕ). (record { answer = number (w .0 .ended .reason); first = w .0 .first; registers = registersAfter t (w .0 .ended .machine) registers; cycles = k }, w .1)) (picked countOf t (w .0 .ended .machine) start cycles)
       ∙ ap step-of g
-
-  -- ---- by cycles, from the numbers of the lifted run
-
-  module _ (limit by : ℕ) (is : by ≡ lift cycles limit) {v : RunNumbers} {m′ : List ℕ} (g : Gives (runFullOnNumbers limit lines registers (cycles + by)) m v m′) where
-    abbrev w : Ended × List ℕ
-    w = exec (runFull limit 0 present (lifted by start)) m
-
-    abbrev t : Bool
-    t = ltb 0 (w .0 .steps)
-
-    high : _≡_ {A = RunNumbers × List ℕ} (runNumbers registers (cycles + by) (w .0), w .1) (v, m′)
-    unfolding runFullOnNumbers
-    high = sym (exec-bind (runFull limit 0 present (lifted by start)) _ m) ∙ g
-
-    split : (b : Bool) (q s : Machine) → cond b (q .cycles) (s .cycles) ≡ cond b q s .cycles
-    split true q s = refl
-    split false q s = refl
-
-    -- the count that comes back is the lifted machine's, also where no step was made
-    count : v .cycles ≡ w .0 .machine .cycles
-    count =
-        sym (ap (λ (z : RunNumbers × List ℕ). z .0 .cycles) high)
-        ∙ split t (levelled (present .nmi) (w .0 .machine)) (lifted by start)
-        ∙ ap (λ (q : Machine). q .cycles) (settles limit present (lifted by start) m (run-ends limit present (lifted by start) m {q = w .0} {m′ = w .1} refl))
-
-    pub cycles-least : by ≤ v .cycles
-    cycles-least = omega (arith, count, lifted-least start limit present m by is {q = w .0} {m′ = w .1} refl)
-
-    lower : (b : Bool) (k : ℕ) → cond b (k - by) cycles ≡ cond b k (cycles + by) - by
-    lower true k = refl
-    lower false k = omega arith
-
-    -- the numbers of a run by cycles, whatever it answers
-    numbers : (r : Reason) (a : ℕ) → number r ≡ a
-        → _≡_ {A = RunNumbers × List ℕ} (runNumbers registers cycles (ended r (w .0 .steps) (lowered by (w .0 .machine))), w .1)
-        (record { answer = a; steps = v .steps; registers = v .registers; cycles = v .cycles - by }, m′)
-    numbers r a e =
-        ap (λ (k : ℕ). (record { answer = k; steps = w .0 .steps; registers = registersAfter t (w .0 .machine) registers; cycles = cond t (w .0 .machine .cycles - by) cycles }, w .1)) e
-        ∙ ap (λ (k : ℕ). (record { answer = a; steps = w .0 .steps; registers = registersAfter t (w .0 .machine) registers; cycles = k }, w .1)) (lower t (w .0 .machine .cycles))
-        ∙ ap (λ (z : RunNumbers × List ℕ). (record { answer = a; steps = z .0 .steps; registers = z .0 .registers; cycles = z .0 .cycles - by }, z .1)) high
-
-    pub cycles-spent : (size : ℕ) → size ≡ fullMemory → limit ≤ highestBound → leb (cycles + limit) (v .cycles - by) ≡ true
-        → Gives (runCyclesOnNumbers size limit lines registers cycles) m (record { answer = 0; steps = v .steps; registers = v .registers; cycles = v .cycles - by }) m′
-    unfolding runCyclesOnNumbers
-    cycles-spent size f h e =
-        rw (cycles-whole size limit present start [] f h)
-        (then (spendFull limit (cycles + limit) 0 present start) _ m (lifted-spent start limit present m by is {q = w .0} {m′ = w .1} refl (rw count at e)) refl ∙ numbers Made 0 refl)
-
-    pub cycles-unspent : (size : ℕ) → size ≡ fullMemory → limit ≤ highestBound → leb (cycles + limit) (v .cycles - by) ≡ false
-        → Gives (runCyclesOnNumbers size limit lines registers cycles) m (record { answer = v .answer; steps = v .steps; registers = v .registers; cycles = v .cycles - by }) m′
-    unfolding runCyclesOnNumbers
-    cycles-unspent size f h e =
-        rw (cycles-whole size limit present start [] f h)
-        (then (spendFull limit (cycles + limit) 0 present start) _ m (lifted-unspent start limit present m by is {q = w .0} {m′ = w .1} refl (rw count at e)) refl ∙ numbers (w .0 .reason) (v .answer) (ap (λ (z : RunNumbers × List ℕ). z .0 .answer) high))
 
   -- ---- refused before it
 

@@ -79,3 +79,9 @@ Turned bound lines registers cycles m v m′ =
     Gives (turnOnNumbers bound lines registers cycles) m v m′
     × (machineFrom (v .registers) (v .cycles)
     ≡ settled (machineFrom registers cycles) (exec (turning bound (linesFrom lines) (machineFrom registers cycles)) m .0 .ended) .machine)
+
+-- and such a run
+abbrev pub Ran : ℕ → ℕ → ℕ → ℕ → List ℕ → RunNumbers → List ℕ → Type 0
+Ran bound lines registers cycles m v m′ =
+    Gives (runFullOnNumbers bound lines registers cycles) m v m′
+    × (machineFrom (v .registers) (v .cycles) ≡ exec (runFull bound 0 (linesFrom lines) (machineFrom registers cycles)) m .0 .machine)

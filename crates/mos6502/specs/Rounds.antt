@@ -1,6 +1,6 @@
 -- A run on numbers, turn by turn: what holds before each turn, and what one turn makes of it.
 use Prim.Native.Nat.{ℕ, _+_, _-_, _≤_, _<_}
-use mathlib.Core.Bool.{Bool, true, false, cond}
+use mathlib.Core.Bool.{cond}
 use mathlib.Core.Path.{_≡_, refl, ap, sym, _∙_, subst}
 use mathlib.Core.List.{List}
 use native.Mathlib.Omega.{arith}
@@ -8,32 +8,65 @@ use lib.Dec.{ltb}
 use Rattle.manual.specs.declared.Lines.{Lines}
 use Rattle.manual.specs.declared.Machine.{Machine}
 use Rattle.manual.specs.declared.Ended.{Ended}
+use Rattle.manual.specs.declared.Reason.{Reason}
 use Rattle.manual.specs.declared.Reason.the-variants.{Made}
 use Rattle.manual.specs.Micro.{exec, Gives}
-use Rattle.manual.specs.Outcomes.{ended}
+use Rattle.manual.specs.Outcomes.{number, ended}
 use Rattle.manual.specs.Stepping.{runFull}
 use Rattle.manual.specs.Theorems.StepLaws.{run-end}
 use Rattle.manual.specs.Theorems.Lunch.{added}
 use Rattle.cpu.specs.declared.Travelled.{Travelled}
 use Rattle.cpu.specs.Turning.{Fits, going, turning, settled, going-fits, going-most, turn-few, turn-stops, turn-goes, added-none, added-twice}
-use Rattle.numbers.specs.Machines.{machineFrom, linesFrom}
-use Rattle.mos6502.specs.Numbers.{RunNumbers, runNumbers, turnOnNumbers, runFullOnNumbers}
+use Rattle.numbers.specs.Machines.{machineFrom, linesFrom, registersAfter, cyclesAfter}
+use Rattle.mos6502.specs.Numbers.{RunNumbers, runNumbers, turnOnNumbers, Ran}
 use Rattle.mos6502.specs.Laws.{zero-made, other-refused, numberOf, countOf, onward, turn-of, run-gives}
 
--- Of a run of `bound` steps `total` are made: what is left of it goes on from the numbers, which are as they were given if none is.
+-- The two numbers after `total` steps: as they were given if none is made, and otherwise those of the machine that they hold.
+pub record Handed (registers₀ cycles₀ total registers cycles : ℕ) : Type 0 where
+  pub numbers : registers ≡ cond (ltb 0 total) (numberOf (machineFrom registers cycles)) registers₀
+  pub count : cycles ≡ cond (ltb 0 total) (countOf (machineFrom registers cycles)) cycles₀
+
+pub given : (registers cycles : ℕ) → Handed registers cycles 0 registers cycles
+given registers cycles = record { numbers = refl; count = refl }
+
+module _ {registers₀ cycles₀ total registers cycles : ℕ} (handed : Handed registers₀ cycles₀ total registers cycles) where
+  -- what comes back of a run that leaves their machine
+  pub handed-back : (r : Reason) (s : Machine) → machineFrom registers cycles ≡ s
+      → runNumbers registers₀ cycles₀ (ended r total s) ≡ record { answer = number r; steps = total; registers = registers; cycles = cycles }
+  handed-back r s same = rw (sym same, sym (handed .numbers), sym (handed .count))
+
+  -- after more steps
+  pub handed-on : (q : Ended) → machineFrom (registersAfter (ltb 0 (q .steps)) (q .machine) registers) (cyclesAfter (ltb 0 (q .steps)) (q .machine) cycles) ≡ settled (machineFrom registers cycles) q .machine
+      → Handed registers₀ cycles₀ (total + q .steps) (registersAfter (ltb 0 (q .steps)) (q .machine) registers) (cyclesAfter (ltb 0 (q .steps)) (q .machine) cycles)
+  handed-on q same = record {
+    numbers = onward numberOf total (q .steps) registers₀ registers (q .machine) (machineFrom registers cycles) (handed .numbers)
+        ∙ ap (λ (s : Machine). cond (ltb 0 (total + q .steps)) (numberOf s) registers₀) (sym same);
+    count = onward countOf total (q .steps) cycles₀ cycles (q .machine) (machineFrom registers cycles) (handed .count)
+        ∙ ap (λ (s : Machine). cond (ltb 0 (total + q .steps)) (countOf s) cycles₀) (sym same);
+  }
+
+-- Of a run of `bound` steps `total` are made: what is left of it goes on from the numbers.
 pub record Round (bound lines registers₀ cycles₀ : ℕ) (m₀ : List ℕ) (total registers cycles : ℕ) (m : List ℕ) : Type 0 where
   pub rest : exec (runFull bound 0 (linesFrom lines) (machineFrom registers₀ cycles₀)) m₀
       ≡ added total (exec (runFull (bound - total) 0 (linesFrom lines) (machineFrom registers cycles)) m)
-  pub numbers : registers ≡ cond (ltb 0 total) (numberOf (machineFrom registers cycles)) registers₀
-  pub count : cycles ≡ cond (ltb 0 total) (countOf (machineFrom registers cycles)) cycles₀
+  pub handed : Handed registers₀ cycles₀ total registers cycles
 
 pub at-first : (bound lines registers cycles : ℕ) (m : List ℕ) → Round bound lines registers cycles m 0 registers cycles m
 at-first bound lines registers cycles m = record {
   rest = let e : bound ≡ bound - 0 = omega arith in
       ap (λ (n : ℕ). exec (runFull n 0 (linesFrom lines) (machineFrom registers cycles)) m) e ∙ added-none _;
-  numbers = refl;
-  count = refl;
+  handed = given registers cycles;
 }
+
+-- where the steps that were made are all
+ran : (bound lines registers₀ cycles₀ : ℕ) (m₀ : List ℕ) {total registers cycles : ℕ} {r : Reason} {s : Machine} {m : List ℕ} → Handed registers₀ cycles₀ total registers cycles
+    → Gives (runFull bound 0 (linesFrom lines) (machineFrom registers₀ cycles₀)) m₀ (ended r total s) m
+    → machineFrom registers cycles ≡ s
+    → Ran bound lines registers₀ cycles₀ m₀ (record { answer = number r; steps = total; registers = registers; cycles = cycles }) m
+ran bound lines registers₀ cycles₀ m₀ {r = r} {s = s} {m = m} handed g same = (
+  run-gives lines registers₀ cycles₀ m₀ bound g ∙ ap (λ (v : RunNumbers). (v, m)) (handed-back handed r s same),
+  same ∙ ap (λ (w : Ended × List ℕ). w .0 .machine) (sym g),
+)
 
 module _ (bound lines registers₀ cycles₀ : ℕ) (m₀ : List ℕ) (total registers cycles : ℕ) (m : List ℕ) (round : Round bound lines registers₀ cycles₀ m₀ total registers cycles m) where
   abbrev present : Lines
@@ -43,17 +76,16 @@ module _ (bound lines registers₀ cycles₀ : ℕ) (m₀ : List ℕ) (total reg
   machine = machineFrom registers cycles
 
   -- if all steps are made
-  pub at-last : total ≡ bound
-      → Gives (runFullOnNumbers bound lines registers₀ cycles₀) m₀ (record { answer = 0; steps = total; registers = registers; cycles = cycles }) m
+  pub at-last : total ≡ bound → Ran bound lines registers₀ cycles₀ m₀ (record { answer = 0; steps = total; registers = registers; cycles = cycles }) m
   at-last e =
       let none : bound - total ≡ 0 = omega arith in
       let same : total + 0 ≡ total = omega arith in
-      run-gives lines registers₀ cycles₀ m₀ bound
+      ran bound lines registers₀ cycles₀ m₀ (round .handed)
       (round .rest
       ∙ ap (λ (n : ℕ). added total (exec (runFull n 0 present machine) m)) none
       ∙ ap (added total) (run-end 0 present machine m)
       ∙ ap (λ (k : ℕ). (ended Made k machine, m)) same)
-      ∙ rw (sym (round .numbers), sym (round .count))
+      refl
 
   module _ (l : total < bound) where
     abbrev n : ℕ
@@ -80,19 +112,13 @@ module _ (bound lines registers₀ cycles₀ : ℕ) (m₀ : List ℕ) (total reg
       pub goes : v .answer ≡ 0
           → (0 < v .steps) × Round bound lines registers₀ cycles₀ m₀ (total + v .steps) (v .registers) (v .cycles) m′
       pub stops : (v .answer ≡ 0 → ⊥)
-          → Gives (runFullOnNumbers bound lines registers₀ cycles₀) m₀ (record { answer = v .answer; steps = total + v .steps; registers = v .registers; cycles = v .cycles }) m′
+          → Ran bound lines registers₀ cycles₀ m₀ (record { answer = v .answer; steps = total + v .steps; registers = v .registers; cycles = v .cycles }) m′
 
     abbrev v : RunNumbers
     v = runNumbers registers cycles (w .0 .ended)
 
     abbrev q : Ended
     q = settled machine (w .0 .ended)
-
-    registers-on : v .registers ≡ cond (ltb 0 (total + q .steps)) (numberOf (q .machine)) registers₀
-    registers-on = onward numberOf total (q .steps) registers₀ registers (w .0 .ended .machine) machine (round .numbers)
-
-    cycles-on : v .cycles ≡ cond (ltb 0 (total + q .steps)) (countOf (q .machine)) cycles₀
-    cycles-on = onward countOf total (q .steps) cycles₀ cycles (w .0 .ended .machine) machine (round .count)
 
     turns : machineFrom (v .registers) (v .cycles) ≡ q .machine → Turns v (w .1)
     turns same = record {
@@ -107,14 +133,13 @@ module _ (bound lines registers₀ cycles₀ : ℕ) (m₀ : List ℕ) (total reg
                   ∙ added-twice total (q .steps) _
                   ∙ ap (λ (k : ℕ). added (total + q .steps) (exec (runFull k 0 present (q .machine)) (w .1))) less
                   ∙ ap (λ (s : Machine). added (total + q .steps) (exec (runFull (bound - (total + q .steps)) 0 present s) (w .1))) (sym same);
-              numbers = registers-on ∙ ap (λ (s : Machine). cond (ltb 0 (total + q .steps)) (numberOf s) registers₀) (sym same);
-              count = cycles-on ∙ ap (λ (s : Machine). cond (ltb 0 (total + q .steps)) (countOf s) cycles₀) (sym same);
+              handed = handed-on (round .handed) (w .0 .ended) same;
             },
           );
       stops = λ f.
-          run-gives lines registers₀ cycles₀ m₀ bound
+          ran bound lines registers₀ cycles₀ m₀ (handed-on (round .handed) (w .0 .ended) same)
           (round .rest ∙ ap (added total) (turn-stops present machine n far (fits .0) most m {r = w .0} {m′ = w .1} refl (other-refused (q .reason) f)))
-          ∙ rw (sym registers-on, sym cycles-on);
+          same;
     }
 
     -- from what comes back of the turn

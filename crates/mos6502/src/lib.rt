@@ -6,7 +6,7 @@ ghost use lib.ListN.{length};
 ghost use Rattle.registers.specs.State.{registersOf};
 ghost use Rattle.registers.specs.StatusByte.{bit, pushedByte, pulledStatus};
 ghost use Rattle.packing.specs.Packed.{packed, unpacked, unpackedNmi};
-ghost use Rattle.manual.specs.Stepping.{fullMemory};
+ghost use Rattle.manual.specs.Stepping.{fullMemory, runFull};
 ghost use Rattle.manual.specs.Micro.{exec, Gives};
 ghost use Rattle.cpu.specs.Turning.{Calm, Fits, going, turning, settled};
 ghost use Rattle.numbers.specs.Machines.{machineFrom, linesFrom};
@@ -14,8 +14,7 @@ ghost use Rattle.mos6502.specs.Numbers.{runFullOnNumbers, turnOnNumbers}
 ghost use Rattle.mos6502.specs.Calls.{RunCall, LongRunCall, CyclesCall};
 use cpu::fitting;
 use cpu::turn;
-use cycles::lift;
-use cycles::spent;
+use cycles::sure_steps;
 use manual::FULL_MEMORY;
 use manual::HIGHEST_BOUND;
 use numbers::hand_back;
@@ -172,7 +171,7 @@ fn one_turn(
     }
 }
 
-// At most `bound` steps on numbers, turn by turn.
+// At most `bound` steps on numbers, turn by turn. The numbers are again those of the machine that is left.
 fn go_on(
     registers: &mut u64,
     cycles: &mut u64,
@@ -188,6 +187,9 @@ fn go_on(
         (now (memory .entry))
         (record { answer = r; steps = now (steps .exit); registers = now (registers .exit); cycles = now (cycles .exit) })
         (now (memory .exit)) ⌝ }
+    ensures { λ r.
+        ⌜ machineFrom (now (registers .exit)) (now (cycles .exit))
+        ≡ exec (runFull bound 0 (linesFrom lines) (machineFrom (now (registers .entry)) (now (cycles .entry)))) (now (memory .entry)) .0 .machine ⌝ }
 {
     let mut total: u64 = 0;
     let mut made: u64 = 0;
@@ -251,8 +253,8 @@ pub extern "C" fn mos6502_long_run(
     go_on(registers, cycles, steps, bound, lines, memory)
 }
 
-// A run that is over when `limit` or more cycles are spent, by a lifted count. Where it makes no step, both numbers stay as they
-// were.
+// A run that is over when `limit` or more cycles are spent, made of runs by steps. Where it makes no step, both numbers stay as
+// they were.
 #[no_mangle]
 pub extern "C" fn mos6502_run_cycles(
     registers: &mut u64,
@@ -276,10 +278,24 @@ pub extern "C" fn mos6502_run_cycles(
         return 4;
     }
     let from = *cycles;
-    let by = lift(from, limit);
-    *cycles = from + by;
-    let answer = go_on(registers, cycles, steps, limit, lines, memory);
-    let count = *cycles - by;
-    *cycles = count;
-    if spent(from, limit, count) { 0 } else { answer }
+    let mut total: u64 = 0;
+    let mut made: u64 = 0;
+    while *cycles - from < limit {
+        let left = limit - (*cycles - from);
+        let answer = go_on(
+            registers,
+            cycles,
+            &mut made,
+            sure_steps(left),
+            lines,
+            memory,
+        );
+        total += made;
+        if answer != 0 {
+            *steps = total;
+            return answer;
+        }
+    }
+    *steps = total;
+    0
 }

@@ -1,16 +1,12 @@
 -- The loop's invariant is a `Round`: what is left of the run goes on from the numbers.
-use Prim.Native.Nat.{ℕ, _+_, _-_, _^_, _≤_, _<_}
-use mathlib.Core.Path.{_≡_, ap, sym, _∙_, subst}
+use Prim.Native.Nat.{ℕ, _-_, _≤_, _<_}
+use mathlib.Core.Path.{_≡_}
 use mathlib.Core.List.{List}
 use native.Mathlib.Omega.{arith}
 use borrow.Author.Needs.{needs}
 use denote.Ref.{now}
 use lib.ListN.{length}
-use Rattle.manual.specs.declared.Lines.{Lines}
-use Rattle.manual.specs.Micro.{exec, Gives}
 use Rattle.manual.specs.Stepping.{fullMemory}
-use Rattle.cpu.specs.Turning.{Calm, reach, turning, settled, reach-calm}
-use Rattle.numbers.specs.Machines.{machineFrom, linesFrom}
 use Rattle.mos6502.specs.Numbers.{RunNumbers}
 use Rattle.mos6502.specs.Rounds.{Round, at-first, at-last, Turns, round-turns}
 use Rattle.mos6502.proofs.go_on.Statement.{statement}

@@ -10,7 +10,7 @@ returns c = long-run-short-memory _ _ _ _ _ _ (c .if1 .taken)
 returns-2 : tie.Need-returns-2
 returns-2 c =
     let c₇ = c .before .before .before .before .before .before .before in
-    long-run-on-full _ _ _ _ _ _ (c₇ .if1 .left) (c .before .before .go-on .ensures)
+    long-run-on-full _ _ _ _ _ _ (c₇ .if1 .left) (c .before .before .go-on .ensures .0)
 
 pub mos6502-long-run-spec : {M : Type 1} → statement M
 mos6502-long-run-spec = tie.close (tie.spec returns (search needs) (search needs) returns-2)

@@ -13,7 +13,7 @@ returns-2 c = run-long-bound _ _ _ _ _ _ (c .before .if1 .left) (c .if2 .taken)
 returns-3 : tie.Need-returns-3
 returns-3 c =
     let c₇ = c .before .before .before .before .before .before .before in
-    run-on-full _ _ _ _ _ _ (c₇ .before .if1 .left) (c₇ .if2 .left) (c .before .before .go-on .ensures)
+    run-on-full _ _ _ _ _ _ (c₇ .before .if1 .left) (c₇ .if2 .left) (c .before .before .go-on .ensures .0)
 
 pub mos6502-run-spec : {M : Type 1} → statement M
 mos6502-run-spec = tie.close (tie.spec returns returns-2 (search needs) (search needs) returns-3)
