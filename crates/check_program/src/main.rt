@@ -2,11 +2,11 @@
 //
 // run check [--] IMAGE LOG...
 //
-// IMAGE is a file of 65,536 bytes. A log is a file of any length, or standard input if it is `-`; after `--` a name may
+// IMAGE is a file of 65,536 bytes. A log is a file of any length, or standard input where it is `-`; after `--` a name may
 // begin with `-`. Its lines hold the last seven fields of report's line: cycles, counter, A, X, Y, S, status. The first may be
 // any state; every later one has to be the state after one step from the line before, with idle lines, on the memory that the
 // steps before it leave. What is found goes to standard output, a line for each log: the answer and the line that it names,
-// counted from 1; of a line that does not follow, the line that would have been right after it, if a step can be made. A
+// counted from 1; of a line that does not follow, the line that would have been right after it, where a step can be made. A
 // sentence on standard error says the same in words, with the log's name before it. A log of one line is accepted: it shows
 // nothing about a step.
 //
@@ -39,13 +39,14 @@ use sentences::put_sentence;
 use statuses::Goal;
 use statuses::first_of;
 use statuses::log_status;
+use trace_steps::put_steps;
+use tracing::View;
 use tracing::put_finding;
-use tracing::put_step;
 use tracing::put_verdict;
 
 mod log; // log.rt: a log, read and checked part by part
 
-// 41 is the most that an entry can have (`put_step`), and 66 that entry with an answer and a number before it (`put_verdict`).
+// 41 is the most that a line can have (`put_steps`), and 66 that line with an answer and a number before it (`put_verdict`).
 fn write_verdict(answer: u8, line: u64, right: &[u8], failed: &mut u8)
     requires { ⌜ length (now right) ≤ 41 ⌝ }
     ensures { λ r. ⌜ FailureStays (now (failed .entry)) (now (failed .exit)) ⌝ }
@@ -64,7 +65,7 @@ fn say_finding(index: usize, answer: u8, number: u64, failed: &mut u8)
     say_of(index, &text[..size], failed);
 }
 
-// Why no step can be made from the last entry, if none can be.
+// Why no step can be made from the last line, where none can be.
 fn say_stuck(index: usize, ended: Ended, copy: &[u8], failed: &mut u8)
     ensures { λ r. ⌜ FailureStays (now (failed .entry)) (now (failed .exit)) ⌝ }
 {
@@ -77,7 +78,7 @@ fn say_stuck(index: usize, ended: Ended, copy: &[u8], failed: &mut u8)
     say_of(index, &text[..size], failed);
 }
 
-// The entry that would have followed; if no step can be made, a sentence says why.
+// The line that would have followed; where no step can be made, a sentence says why.
 fn show_right(index: usize, line: u64, last: Last, copy: &mut [u8], failed: &mut u8)
     ensures { λ r. ⌜ FailureStays (now (failed .entry)) (now (failed .exit)) ⌝ }
 {
@@ -85,11 +86,10 @@ fn show_right(index: usize, line: u64, last: Last, copy: &mut [u8], failed: &mut
         Last::Start => write_verdict(12, line, b"", failed),
         Last::After(machine) => {
             let mut right = [0u8; 41];
-            let traced = put_step(&mut right, 0, machine, copy);
-            let size = traced.next;
-            let stepped = traced.stepped;
-            let reason = stepped.reason;
-            say_stuck(index, Ended::new(reason, 0, machine), copy, failed);
+            let shown = put_steps(&mut right, View::States, machine, 1, copy);
+            let size = shown.size;
+            let ended = shown.ended;
+            say_stuck(index, ended, copy, failed);
             write_verdict(12, line, &right[..size], failed);
         }
     }
@@ -142,7 +142,7 @@ fn refuse_image(index: usize, image: &[u8], failed: &mut u8) -> u8
 }
 
 // Checks a log on a copy of the image, and answers the status: there is a text, the one that was read, of which this is it.
-// If the image could not be read nothing is checked.
+// Where the image could not be read nothing is checked.
 fn check_on(image: usize, log: usize, copy: &mut [u8], failed: &mut u8) -> u8
     ensures { λ r. ⌜ Concludes (now (copy .entry)) (now (failed .exit)) r ⌝ }
     ensures { λ r. ⌜ FailureStays (now (failed .entry)) (now (failed .exit)) ⌝ }

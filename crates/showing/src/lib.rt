@@ -12,14 +12,9 @@ use lines::show_run;
 use memory::image_buffer;
 use statuses::Goal;
 use statuses::first_of;
+use tracing::View;
 
 mod lines; // lines.rt: the run, with its lines
-
-// What is shown of a run: the states, from the one that it starts with, or the steps and their cycles.
-pub enum View {
-    States,
-    Steps,
-}
 
 // The size of an image that was read, and the status by that.
 struct Told {

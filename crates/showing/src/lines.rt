@@ -7,7 +7,6 @@ ghost use Rattle.manual.specs.Interrupts.{idle};
 ghost use Rattle.manual.specs.Stepping.{longRun};
 ghost use Rattle.reporting.specs.Report.{longImageRun};
 ghost use Rattle.console.specs.Failing.{FailureStays};
-use crate::View;
 use console::show_progress;
 use console::write_output;
 use libc::STDOUT_FILENO;
@@ -16,6 +15,8 @@ use manual::FULL_MEMORY;
 use manual::Machine;
 use reporting::start_image;
 use state_lines::put_line;
+use trace_steps::put_steps;
+use tracing::View;
 
 // A run is made in parts of so many steps, each with its lines in one buffer; a run in parts is the whole run (the theorems
 // `lunch` and `in-parts`).
@@ -28,41 +29,18 @@ fn text_buffer() -> [u8; 52000]
     [0; 52000]
 }
 
-fn states_part(machine: Machine, bound: u64, image: &mut [u8], failed: &mut u8) -> Ended
-    requires { ⌜ bound ≤ 1000 ⌝ }
-    ensures { λ r. ⌜ Gives (longRun (length (now (image .entry))) bound idle machine) (now (image .entry)) r (now (image .exit)) ⌝ }
-    ensures { λ r. ⌜ FailureStays (now (failed .entry)) (now (failed .exit)) ⌝ }
-{
-    let mut text = text_buffer();
-    let traced = tracing::put_steps(&mut text, machine, bound, image);
-    let ended = traced.ended;
-    let size = traced.size;
-    write_output(&text[..size], failed);
-    ended
-}
-
-fn steps_part(machine: Machine, bound: u64, image: &mut [u8], failed: &mut u8) -> Ended
-    requires { ⌜ bound ≤ 1000 ⌝ }
-    ensures { λ r. ⌜ Gives (longRun (length (now (image .entry))) bound idle machine) (now (image .entry)) r (now (image .exit)) ⌝ }
-    ensures { λ r. ⌜ FailureStays (now (failed .entry)) (now (failed .exit)) ⌝ }
-{
-    let mut text = text_buffer();
-    let timed = timetable::put_steps(&mut text, machine, bound, image);
-    let ended = timed.ended;
-    let size = timed.size;
-    write_output(&text[..size], failed);
-    ended
-}
-
+// A part of a run, with its lines.
 fn show_part(view: View, machine: Machine, bound: u64, image: &mut [u8], failed: &mut u8) -> Ended
     requires { ⌜ bound ≤ 1000 ⌝ }
     ensures { λ r. ⌜ Gives (longRun (length (now (image .entry))) bound idle machine) (now (image .entry)) r (now (image .exit)) ⌝ }
     ensures { λ r. ⌜ FailureStays (now (failed .entry)) (now (failed .exit)) ⌝ }
 {
-    match view {
-        View::States => states_part(machine, bound, image, failed),
-        View::Steps => steps_part(machine, bound, image, failed),
-    }
+    let mut text = text_buffer();
+    let shown = put_steps(&mut text, view, machine, bound, image);
+    let ended = shown.ended;
+    let size = shown.size;
+    write_output(&text[..size], failed);
+    ended
 }
 
 // The line of the state that a run starts with. An image of another length has none.

@@ -12,7 +12,7 @@
 // was still running after COUNT steps; 1 the image is not 65,536 bytes long; 64 wrong usage, 66 the image cannot be opened,
 // 74 reading or writing failed.
 //
-// What the lines, the sentence and the status say is promised by the crates timetable, showing and statuses.
+// What the lines, the sentence and the status say is promised by the crates trace_steps, showing and statuses.
 ghost use Prim.Native.Nat.{_≤_};
 use console::address_argument;
 use console::argument_is;
@@ -21,9 +21,9 @@ use console::hand_over;
 use console::names_from;
 use console::refuse;
 use reading::NOWHERE;
-use showing::View;
 use showing::show_input;
 use statuses::Goal;
+use tracing::View;
 
 // The arguments from an index on: the count, and the image.
 fn time_from(from: usize, goal: Goal) -> u8

@@ -11,16 +11,16 @@
 // opcode; 1 the image is not 65,536 bytes long, and nothing is printed; 64 wrong usage, 66 the image cannot be opened, 74
 // reading or writing failed.
 //
-// What the lines, the sentence and the status say is promised by the crates tracing, showing and statuses; that check accepts
+// What the lines, the sentence and the status say is promised by the crates trace_steps, showing and statuses; that check accepts
 // the lines is the theorem `trace-accepted`.
 use console::count_argument;
 use console::hand_over;
 use console::names_from;
 use console::refuse;
 use reading::NOWHERE;
-use showing::View;
 use showing::show_input;
 use statuses::Goal;
+use tracing::View;
 
 fn trace_by_arguments() -> u8 {
     let count = count_argument(1);

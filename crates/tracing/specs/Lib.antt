@@ -1,4 +1,3 @@
-pub mod Traces
+pub mod Entries
 pub mod Findings
 pub mod Laws
-pub mod Theorems

@@ -8,12 +8,12 @@ use Rattle.check_program.proofs.show_right.Statement.{statement}
 use Rattle.check_program.proofs.show_right.Tie as tie
 
 slice-aggregate-write-verdict-2 : tie.Need-slice-aggregate-write-verdict-2
-slice-aggregate-write-verdict-2 c = sym (length-take-le _ _ (omega (arith, c .before .before .before .before .before .before .before .before .before .put-step .ensures .1 .1)))
+slice-aggregate-write-verdict-2 c = sym (length-take-le _ _ (omega (arith, c .before .before .before .before .before .before .before .before .put-steps .ensures .1 .1)))
 
 write-verdict-requires-2 : tie.Need-write-verdict-requires-2
 write-verdict-requires-2 c κs =
-    let c₁₀ = c .before .before .before .before .before .before .before .before .before .before in
-    omega (arith, c₁₀ .put-step .ensures .1 .1, length-take-le (c₁₀ .put-step .result .next) (c₁₀ .put-step .last .0) (omega (arith, c₁₀ .put-step .ensures .1 .1)))
+    let c₉ = c .before .before .before .before .before .before .before .before .before in
+    omega (arith, c₉ .put-steps .ensures .1 .1, length-take-le (c₉ .put-steps .result .size) (c₉ .put-steps .last .0) (omega (arith, c₉ .put-steps .ensures .1 .1)))
 
 returns : tie.Need-returns
 returns c = c .write-verdict .ensures
@@ -22,4 +22,4 @@ returns-2 : tie.Need-returns-2
 returns-2 c = stays-on (c .before .before .before .say-stuck .ensures) (c .write-verdict2 .ensures)
 
 pub show-right-spec : {M : Type 1} → statement M
-show-right-spec = tie.close (tie.spec (search needs) (search needs) (search needs) (search needs) (search needs) (search needs) (search needs) (search needs) (search needs) slice-aggregate-write-verdict-2 write-verdict-requires-2 returns (search needs) returns-2)
+show-right-spec = tie.close (tie.spec (search needs) (search needs) (search needs) (search needs) (search needs) (search needs) (search needs) (search needs) slice-aggregate-write-verdict-2 write-verdict-requires-2 returns (search needs) returns-2)

@@ -1,4 +1,4 @@
--- The loop's invariant: what is left to write are the lines of the steps that are left, and what the whole run gives is what they give.
+-- The loop's invariant: what is left to write are the entries of the steps that are left, and what the whole run gives is what they give.
 use Prim.Native.Nat.{ℕ, _+_, _-_, _*_, _≤_, _<_}
 use mathlib.Core.Path.{_≡_, refl, sym, ap, _∙_}
 use mathlib.Core.Bool.{true, false}
@@ -14,29 +14,31 @@ use Rattle.manual.specs.Theorems.StepLaws.{long-short, long-whole}
 use Rattle.text.specs.Written.{most}
 use Rattle.text.specs.Laws.{nothing}
 use Rattle.text.specs.Left.{Left, less-left, none-left}
-use Rattle.timetable.specs.Timetable.{fullTimetable}
-use Rattle.timetable.specs.Laws.{run-next, run-refused, next-line, no-line, no-steps, no-more-steps, on-full, not-on-full}
-use Rattle.timetable.proofs.put_steps.Statement.{statement}
-use Rattle.timetable.proofs.put_steps.Tie as tie
+use Rattle.tracing.specs.Entries.{longest}
+use Rattle.tracing.specs.Laws.{one-longer, no-longer}
+use Rattle.trace_steps.specs.Traces.{fullTrace}
+use Rattle.trace_steps.specs.Laws.{run-next, run-refused, next-entry, no-entry, no-steps, no-more-steps, on-full, not-on-full}
+use Rattle.trace_steps.proofs.put_steps.Statement.{statement}
+use Rattle.trace_steps.proofs.put_steps.Tie as tie
 
 abbrev Inv-loop : tie.InvT-loop
-Inv-loop out₀ bound memory₀ left₀ steps₀ next₀ out memory left steps next =
+Inv-loop out₀ view bound memory₀ left₀ steps₀ next₀ out memory left steps next =
     (length out ≡ length out₀)
     × (length memory ≡ fullMemory)
     × (steps ≤ bound)
     × (next ≤ most)
-    × (next ≤ 52 * steps)
-    × Left out next (fullTimetable (bound - steps) left memory) out₀ 0 (fullTimetable bound left₀ memory₀)
+    × (next ≤ longest view * steps)
+    × Left out next (fullTrace view (bound - steps) left memory) out₀ 0 (fullTrace view bound left₀ memory₀)
     × (exec (runFull bound 0 idle left₀) memory₀ ≡ exec (runFull (bound - steps) steps idle left) memory)
 
 abbrev μ-loop : tie.MeasureT-loop
-μ-loop out₀ bound memory₀ left₀ steps₀ next₀ out memory left steps next = bound - steps
+μ-loop out₀ view bound memory₀ left₀ steps₀ next₀ out memory left steps next = bound - steps
 
 returns : tie.Need-returns Inv-loop μ-loop
 returns c =
     let s = c .before .before .before .before in (
       long-short _ _ _ _ _ (c .before .if1 .taken) ∙ rw (c .new .ensures),
-      (rw (not-on-full _ _ _ (c .before .if1 .taken)) (nothing (omega (arith, s)) (omega arith)), omega arith),
+      (rw (not-on-full _ _ _ _ (c .before .if1 .taken)) (nothing (omega (arith, s)) (omega arith)), omega arith),
     )
 
 loop-holds : tie.Need-loop-holds Inv-loop μ-loop
@@ -59,6 +61,7 @@ loop-again : tie.Need-loop-again Inv-loop μ-loop
 loop-again c =
     let c₈ = c .before .before .before .before .before .before .before .before in
     let c₁₁ = c₈ .before .before .before in
+    let s = c₁₁ .before .before .before .before .before .args in
     let h = c₁₁ .before .loop .inv in
     let step = c₈ .put-step .ensures in
     let made : isMade (c₈ .put-step .result .stepped .reason) ≡ true = sym (c .before .is-made .ensures) ∙ c .if2 .taken in (
@@ -66,8 +69,8 @@ loop-again c =
       omega (arith, c₈ .put-step .kept, h .1),
       omega (arith, c₁₁ .loop-test .taken),
       omega (arith, step .1 .0 .ends),
-      omega (arith, step .1 .1, h .4),
-      less-left (h .5) (next-line _ _ _ _ (step .0) _ _ (c₁₁ .loop-test .taken) made) (step .1 .0),
+      one-longer (s .view) (c₁₁ .before .loop .steps) (h .4) (step .1 .1),
+      less-left (h .5) (next-entry _ _ _ _ (step .0) _ _ (c₁₁ .loop-test .taken) _ made) (step .1 .0),
       h .6 ∙ run-next _ _ _ _ (step .0) _ _ (c₁₁ .loop-test .taken) made,
     )
 
@@ -86,14 +89,16 @@ returns-2 : tie.Need-returns-2 Inv-loop μ-loop
 returns-2 c =
     let c₉ = c .before .before .before .before .before .before .before .before .before in
     let c₁₂ = c₉ .before .before .before in
+    let s = c₁₂ .before .before .before .before .before .args in
     let h = c₁₂ .before .loop .inv in
     let step = c₉ .put-step .ensures in
     let full = c₁₂ .before .before .if1 .left in
+    let few : c₁₂ .before .loop .steps + 1 ≤ s .bound = omega (arith, c₁₂ .loop-test .taken) in
     let refused : isMade (c₉ .put-step .result .stepped .reason) ≡ false = sym (c .before .before .is-made .ensures) ∙ c .before .if2 .left in (
       rw (long-whole _ _ _ _ full) (h .6 ∙ run-refused _ _ _ _ (step .0) _ _ (c₁₂ .loop-test .taken) refused ∙ rw (c .new2 .ensures)),
       (
-        rw (on-full _ _ _ full) (none-left (less-left (h .5) (no-line _ _ _ _ (step .0) _ _ (c₁₂ .loop-test .taken) refused) (step .1 .0)) refl (omega arith) (omega (arith, step .1 .0 .ends))),
-        omega (arith, step .1 .1, h .4, c₁₂ .loop-test .taken),
+        rw (on-full _ _ _ _ full) (none-left (less-left (h .5) (no-entry _ _ _ _ (step .0) _ _ (c₁₂ .loop-test .taken) _ refused) (step .1 .0)) refl (omega arith) (omega (arith, step .1 .0 .ends))),
+        no-longer (s .view) (c₁₂ .before .loop .steps + 1) (one-longer (s .view) (c₁₂ .before .loop .steps) (h .4) (step .1 .1)) few,
       ),
     )
 
@@ -106,11 +111,12 @@ same-length-4 c = omega (arith, c .before .before .loop .inv .1, c .before .befo
 returns-3 : tie.Need-returns-3 Inv-loop μ-loop
 returns-3 c =
     let c₂ = c .before .before in
+    let s = c₂ .before .before .before .before .args in
     let h = c₂ .loop .inv in
     let full = c₂ .before .if1 .left in
     let all = c .before .loop-test .left in (
       rw (long-whole _ _ _ _ full) (h .6 ∙ no-more-steps _ _ _ _ all ∙ rw (c .new3 .ensures)),
-      (rw (on-full _ _ _ full) (none-left (h .5) (no-steps _ _ _ _ all) (omega (arith, h .0)) (h .3)), omega (arith, h .4, h .2)),
+      (rw (on-full _ _ _ _ full) (none-left (h .5) (no-steps _ _ _ _ _ all) (omega (arith, h .0)) (h .3)), no-longer (s .view) (c₂ .loop .steps) (h .4) (h .2)),
     )
 
 pub put-steps-spec : {M : Type 1} → statement M

@@ -1,3 +1,3 @@
-pub mod Timetable
+pub mod Traces
 pub mod Laws
 pub mod Theorems

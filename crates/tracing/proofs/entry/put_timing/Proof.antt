@@ -3,9 +3,9 @@ use native.Mathlib.Omega.{arith}
 use denote.Ref.{now}
 use borrow.Author.Needs.{needs}
 use Rattle.text.specs.Laws.{then}
-use Rattle.timetable.specs.Laws.{line-length}
-use Rattle.timetable.proofs.put_line.Statement.{statement}
-use Rattle.timetable.proofs.put_line.Tie as tie
+use Rattle.tracing.specs.Laws.{line-length}
+use Rattle.tracing.proofs.entry.put_timing.Statement.{statement}
+use Rattle.tracing.proofs.entry.put_timing.Tie as tie
 
 returns : tie.Need-returns
 returns c =
@@ -16,5 +16,5 @@ returns c =
     let wrote = then (then (then (c₁₀ .before .before .before .before .put-text .ensures) (c₁₀ .put-spaced-decimal .ensures)) (c₆ .put-spaced-hex4 .ensures)) (c₂ .put-byte .ensures) in
     (wrote, omega (arith, wrote .ends, line-length (now (s .instruction)) (s .cycles) (s .first) (omega (arith, c₁₀ .before .before .before .before .before .before .before .before))))
 
-pub put-line-spec : {M : Type 1} → statement M
-put-line-spec = tie.close (tie.spec (search needs) (search needs) (search needs) (search needs) (search needs) returns)
+pub put-timing-spec : {M : Type 1} → statement M
+put-timing-spec = tie.close (tie.spec (search needs) (search needs) (search needs) (search needs) (search needs) returns)

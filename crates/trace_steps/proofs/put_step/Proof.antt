@@ -11,9 +11,9 @@ use Rattle.manual.specs.Theorems.StepLaws.{step-whole}
 use Rattle.text.specs.Laws.{nothing, read-back}
 use Rattle.listing.specs.Lines.{instructionAt}
 use Rattle.listing.specs.Lengths.{instruction-length}
-use Rattle.timetable.specs.Laws.{not-back, shown-made, shown-refused}
-use Rattle.timetable.proofs.put_step.Statement.{statement}
-use Rattle.timetable.proofs.put_step.Tie as tie
+use Rattle.trace_steps.specs.Laws.{not-back, shown-made, shown-refused}
+use Rattle.trace_steps.proofs.put_step.Statement.{statement}
+use Rattle.trace_steps.proofs.put_step.Tie as tie
 
 short : (c : tie.After-put-instruction)
     → length (instructionAt (now (c .before .before .before .before .before .args .memory)) (c .before .before .before .before .before .args .machine .registers .counter)) ≤ 25
@@ -36,10 +36,16 @@ array-share-prefix-instruction c =
     let c₁₁ = c .before .before .before .before .before .before .before .before .before .before .before in
     omega (arith, written c₁₁ .0, short c₁₁, c₁₁ .put-instruction .kept .0)
 
-slice-aggregate-put-line : tie.Need-slice-aggregate-put-line
-slice-aggregate-put-line c =
+slice-aggregate-put-entry : tie.Need-slice-aggregate-put-entry
+slice-aggregate-put-entry c =
     let c₁₂ = c .before .before .before .before .before .before .before .before .before .before .before .before in
     sym (length-take-le _ _ (omega (arith, written c₁₂ .0, short c₁₂, c₁₂ .put-instruction .kept .0)))
+
+put-entry-requires : tie.Need-put-entry-requires
+put-entry-requires c κs =
+    let c₁₂ = c .before .before .before .before .before .before .before .before .before .before .before .before in
+    let size = length-take-le (c₁₂ .put-instruction .result) (c₁₂ .put-instruction .last .0) (omega (arith, written c₁₂ .0, short c₁₂, c₁₂ .put-instruction .kept .0)) in
+    omega (arith, size, written c₁₂ .0, short c₁₂)
 
 returns : tie.Need-returns
 returns c =
@@ -48,9 +54,9 @@ returns c =
     let c₁₁ = c₈ .before .before .before in
     let c₁₅ = c₁₁ .before .before .before .before in
     let s = c₁₅ .before .before .before .before .before in
-    let line = rw (written c₁₅ .1) at (c .before .before .put-line .ensures) in (
+    let line = rw (written c₁₅ .1) at (c .before .before .put-entry .ensures) in (
       rw (c₁₁ .before .before .idle .ensures) at (rw (step-whole _ _ _ (s .pre)) at (c₁₁ .single-step .ensures)),
-      (rw (shown-made _ _ (c₁₁ .single-step .result) (sym (c₈ .is-made .ensures) ∙ c₇ .if1 .taken)) (line .0), omega (arith, line .1, short c₁₅)),
+      (rw (shown-made _ _ _ (c₁₁ .single-step .result) (sym (c₈ .is-made .ensures) ∙ c₇ .if1 .taken)) (line .0), line .1),
     )
 
 returns-2 : tie.Need-returns-2
@@ -58,8 +64,8 @@ returns-2 c =
     let c₄ = c .before .before .before .before in
     let s = c₄ .before .before .before .before .before .before .before .before .before in (
       rw (c₄ .before .before .idle .ensures) at (rw (step-whole _ _ _ (s .pre)) at (c₄ .single-step .ensures)),
-      (rw (shown-refused _ _ (c₄ .single-step .result) (sym (c .before .is-made .ensures) ∙ c .if1 .left)) (nothing (omega arith) (omega arith)), omega arith),
+      (rw (shown-refused _ _ _ (c₄ .single-step .result) (sym (c .before .is-made .ensures) ∙ c .if1 .left)) (nothing (omega arith) (omega arith)), omega arith),
     )
 
 pub put-step-spec : {M : Type 1} → statement M
-put-step-spec = tie.close (tie.spec (search needs) (search needs) (search needs) (search needs) (search needs) sub-cycles array-share-prefix-instruction slice-aggregate-put-line (search needs) (search needs) (search needs) returns (search needs) returns-2)
+put-step-spec = tie.close (tie.spec (search needs) (search needs) (search needs) (search needs) (search needs) sub-cycles array-share-prefix-instruction slice-aggregate-put-entry put-entry-requires (search needs) (search needs) returns (search needs) returns-2)

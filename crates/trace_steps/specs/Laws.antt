@@ -1,10 +1,10 @@
--- Laws of the timetable, for the proofs of the code.
-use Prim.Native.Nat.{ℕ, zero, suc, _+_, _-_, _^_, _≤_, _<_}
+-- Laws of what is shown of a run, for the proofs of the code.
+use Prim.Native.Nat.{ℕ, suc, _+_, _-_, _≤_, _<_}
 use mathlib.Core.Path.{_≡_, refl, ap, sym, _∙_}
 use mathlib.Core.Bool.{true, false}
-use mathlib.Core.List.{List, [], _∷_, _++_}
+use mathlib.Core.List.{List, [], _++_}
 use native.Mathlib.Omega.{arith}
-use lib.ListN.{length, length-append}
+use lib.ListN.{length}
 use borrow.Author.Tests.{eq-eqb, ne-eqb}
 use Rattle.manual.specs.declared.Machine.{Machine}
 use Rattle.manual.specs.declared.Stepped.{Stepped}
@@ -16,9 +16,10 @@ use Rattle.manual.specs.Stepping.{runWhile, fullMemory, stepFull, runFull}
 use Rattle.manual.specs.Theorems.Programs.{exec-then}
 use Rattle.manual.specs.Theorems.StepLaws.{step-late, step-serves, step-undefined, step-defined}
 use Rattle.manual.specs.Theorems.Answers.{Way, late, serves, undefined, ready, way}
-use Rattle.timetable.specs.Timetable.{stepLine, shown, fullTimetable, timetable}
-use Rattle.text.specs.Laws.{decimal-length}
 use Rattle.listing.specs.Lines.{instructionAt}
+use Rattle.tracing.specs.declared.View.{View}
+use Rattle.tracing.specs.Entries.{entryText}
+use Rattle.trace_steps.specs.Traces.{shown, fullTrace, trace}
 
 -- ---- a step
 
@@ -32,17 +33,13 @@ by-way s m q m′ g (ready h) = omega (arith, ap (λ (w : Stepped × List ℕ). 
 pub not-back : (s : Machine) (m : List ℕ) {q : Stepped} {m′ : List ℕ} → Gives (stepFull idle s) m q m′ → s .cycles ≤ q .machine .cycles
 not-back s m {q} {m′} g = by-way s m q m′ g (way idle s m)
 
--- the line of a step, by whether it was made
-pub shown-made : (m : List ℕ) (s : Machine) (q : Stepped) → isMade (q .reason) ≡ true
-    → shown m s q ≡ stepLine (instructionAt m (s .registers .counter)) (q .machine .cycles - s .cycles) (q .first)
-shown-made m s q h = rw h
+-- the entry of a step, by whether it was made
+pub shown-made : (view : View) (m : List ℕ) (s : Machine) (q : Stepped) → isMade (q .reason) ≡ true
+    → shown view m s q ≡ entryText view (instructionAt m (s .registers .counter)) (q .machine .cycles - s .cycles) (q .first) (q .machine)
+shown-made view m s q h = rw h
 
-pub shown-refused : (m : List ℕ) (s : Machine) (q : Stepped) → isMade (q .reason) ≡ false → shown m s q ≡ []
-shown-refused m s q h = rw h
-
--- at most 27 characters stand after the instruction
-pub line-length : (t : List ℕ) (cycles first : ℕ) → cycles < 2 ^ 64 → length (stepLine t cycles first) ≤ length t + 27
-line-length t cycles first h = simp length-append (omega (arith, decimal-length 19 cycles (omega arith)))
+pub shown-refused : (view : View) (m : List ℕ) (s : Machine) (q : Stepped) → isMade (q .reason) ≡ false → shown view m s q ≡ []
+shown-refused view m s q h = rw h
 
 -- ---- a run, before step k of a bound
 
@@ -58,18 +55,18 @@ module _ (s : Machine) (m : List ℕ) (q : Stepped) (m′ : List ℕ) (g : Gives
   unfolding runFull runWhile
   run-refused h = rw one-more (exec-then (stepFull idle s) _ m g ∙ rw h)
 
-  pub next-line : isMade (q .reason) ≡ true
-      → fullTimetable (bound - k) s m ≡ shown m s q ++ fullTimetable (bound - (k + 1)) (q .machine) m′
-  unfolding fullTimetable
-  next-line h = rw (one-more, g, h)
+  pub next-entry : (view : View) → isMade (q .reason) ≡ true
+      → fullTrace view (bound - k) s m ≡ shown view m s q ++ fullTrace view (bound - (k + 1)) (q .machine) m′
+  unfolding fullTrace
+  next-entry view h = rw (one-more, g, h)
 
-  pub no-line : isMade (q .reason) ≡ false → fullTimetable (bound - k) s m ≡ shown m s q ++ []
-  unfolding fullTimetable
-  no-line h = rw (one-more, g, h)
+  pub no-entry : (view : View) → isMade (q .reason) ≡ false → fullTrace view (bound - k) s m ≡ shown view m s q ++ []
+  unfolding fullTrace
+  no-entry view h = rw (one-more, g, h)
 
-pub no-steps : (s : Machine) (m : List ℕ) (bound k : ℕ) → bound ≤ k → fullTimetable (bound - k) s m ≡ []
-unfolding fullTimetable
-no-steps s m bound k h =
+pub no-steps : (view : View) (s : Machine) (m : List ℕ) (bound k : ℕ) → bound ≤ k → fullTrace view (bound - k) s m ≡ []
+unfolding fullTrace
+no-steps view s m bound k h =
     let none : bound - k ≡ 0 = omega arith in
     rw none
 
@@ -81,10 +78,10 @@ no-more-steps s m bound k h =
 
 -- ---- by the length of the memory
 
-pub on-full : (n : ℕ) (s : Machine) (m : List ℕ) → length m ≡ fullMemory → timetable n s m ≡ fullTimetable n s m
-unfolding timetable
-on-full n s m f = rw (eq-eqb (length m) fullMemory f)
+pub on-full : (view : View) (n : ℕ) (s : Machine) (m : List ℕ) → length m ≡ fullMemory → trace view n s m ≡ fullTrace view n s m
+unfolding trace
+on-full view n s m f = rw (eq-eqb (length m) fullMemory f)
 
-pub not-on-full : (n : ℕ) (s : Machine) (m : List ℕ) → (length m ≡ fullMemory → ⊥) → timetable n s m ≡ []
-unfolding timetable
-not-on-full n s m f = rw (ne-eqb (length m) fullMemory f)
+pub not-on-full : (view : View) (n : ℕ) (s : Machine) (m : List ℕ) → (length m ≡ fullMemory → ⊥) → trace view n s m ≡ []
+unfolding trace
+not-on-full view n s m f = rw (ne-eqb (length m) fullMemory f)
