@@ -4,24 +4,13 @@ use mathlib.Core.Path.{_≡_, refl, ap, sym, _∙_}
 use mathlib.Core.Bool.{Bool, true, false}
 use mathlib.Core.List.{List}
 use lib.ListN.{length}
-use Rattle.instruction.specs.declared.AddressingMode.{AddressingMode}
-use Rattle.registers.specs.declared.Registers.{Registers}
 use Rattle.manual.specs.declared.Machine.{Machine}
 use Rattle.manual.specs.declared.Stepped.{Stepped}
-use Rattle.manual.specs.declared.Target.{Target}
 use Rattle.manual.specs.Micro.{exec, Gives}
-use Rattle.manual.specs.Addressing.{target}
 use Rattle.manual.specs.Interrupts.{idle}
 use Rattle.manual.specs.Stepping.{fullMemory, step}
-use Rattle.manual.specs.Theorems.Accesses.{aim}
 use Rattle.manual.specs.Theorems.StepLaws.{step-short}
 use Rattle.undo.specs.Following.{leadsTo, chosen, followed}
-
--- where a mode leads
-pub aimed : (mode : AddressingMode) (r : Registers) (m : List ℕ) {t : Target} {m′ : List ℕ} → Gives (target mode r) m t m′ → t .address ≡ aim mode r m
-aimed mode r m g = sym (ap (λ (w : Target × List ℕ). w .0 .address) g)
-
--- ---- following
 
 module _ (s next : Machine) (m : List ℕ) where
   pub follow-refused : (length m ≡ fullMemory → ⊥) → (false, m) ≡ followed s next m

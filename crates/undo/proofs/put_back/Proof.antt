@@ -1,4 +1,4 @@
--- Four stores in their order.
+-- Three stores in their order.
 use borrow.Author.Needs.{needs}
 use Rattle.undo.proofs.put_back.Statement.{statement}
 use Rattle.undo.proofs.put_back.Tie as tie
@@ -7,8 +7,9 @@ returns : tie.Need-returns
 returns c =
     let c₂ = c .before .before in
     let c₆ = c₂ .before .before .before .before in
-    let c₁₀ = c₆ .before .before .before .before in
-    rw (c₂ .set-byte4 .ensures, c₆ .set-byte3 .ensures, c₁₀ .set-byte2 .ensures, c₁₀ .before .before .before .before .set-byte .ensures)
+    rw (c₂ .set-byte3 .ensures, c₆ .set-byte2 .ensures, c₆ .before .before .before .before .set-byte .ensures)
 
 pub put-back-spec : {M : Type 1} → statement M
-put-back-spec = tie.close (tie.spec (search needs) (search needs) (search needs) (search needs) (search needs) returns)
+put-back-spec =
+    tie.close
+    (tie.spec (search needs) (search needs) (search needs) (search needs) (search needs) (search needs) (search needs) returns)
