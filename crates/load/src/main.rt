@@ -29,6 +29,8 @@ use console::names_from;
 use console::read_two;
 use console::refuse;
 use ending::say_refused;
+use exchange::read_tape_input;
+use exchange::say_verdict;
 use files::can_replace;
 use files::is_same_file;
 use files::not_written;
@@ -39,8 +41,6 @@ use loading::format_of;
 use loading::read_text;
 use manual::FULL_MEMORY;
 use memory::image_buffer;
-use tape_input::read_tape_input;
-use tape_input::say_verdict;
 use tapes::tape_buffer;
 
 // The argument that names the image, if there is one.

@@ -2,7 +2,7 @@
 use Prim.Native.Nat.{ℕ}
 use mathlib.Core.Bool.{Bool, not, cond}
 use Rattle.registers.specs.StatusByte.{bitAt}
-use Rattle.packing.specs.Packed.{packed, unpacked, unpackedNmi}
+use Rattle.numbers.specs.Packed.{packed, unpacked, unpackedNmi}
 use Rattle.manual.specs.declared.Lines.{Lines}
 use Rattle.manual.specs.declared.Machine.{Machine}
 use Rattle.manual.specs.Outcomes.{machineOf}

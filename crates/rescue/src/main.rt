@@ -26,6 +26,8 @@ use console::names_from;
 use console::refuse;
 use console::say_of;
 use console::write_output;
+use exchange::read_tape_input;
+use exchange::say_verdict;
 use loading::Format;
 use loading::Verdict;
 use loading::judge_tape;
@@ -34,8 +36,6 @@ use rescuing::put_sentence;
 use rescuing::rescue;
 use statuses::first_of;
 use statuses::rescue_status;
-use tape_input::read_tape_input;
-use tape_input::say_verdict;
 use tapes::tape_buffer;
 
 // How many characters were read, and the status.

@@ -24,14 +24,14 @@ use console::hand_over;
 use console::names_from;
 use console::refuse;
 use console::write_output;
+use exchange::read_tape_input;
+use exchange::say_verdict;
 use loading::Format;
 use loading::Verdict;
 use loading::judge_tape;
 use rescuing::Rescued;
 use rescuing::rescue;
 use statuses::first_of;
-use tape_input::read_tape_input;
-use tape_input::say_verdict;
 use tapes::tape_buffer;
 
 mod line; // line.rt: the line of a tape

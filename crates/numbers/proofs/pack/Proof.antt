@@ -3,10 +3,10 @@ use mathlib.Core.Path.{refl}
 use native.Mathlib.Omega.{arith}
 use borrow.Author.Needs.{needs}
 use Rattle.registers.specs.InRange.{InRange}
-use Rattle.packing.specs.Packed.{packed}
-use Rattle.packing.specs.RoundTrip.{unpacked-packed, level-packed}
-use Rattle.packing.proofs.pack.Statement.{statement}
-use Rattle.packing.proofs.pack.Tie as tie
+use Rattle.numbers.specs.Packed.{packed}
+use Rattle.numbers.specs.RoundTrip.{unpacked-packed, level-packed}
+use Rattle.numbers.proofs.pack.Statement.{statement}
+use Rattle.numbers.proofs.pack.Tie as tie
 
 in-range : (c : tie.After-flag) → InRange (c .before .before .before .before .before .before .before .args .registers)
 in-range c = record { accumulator = omega arith; x = omega arith; y = omega arith; stack = omega arith; counter = omega arith }

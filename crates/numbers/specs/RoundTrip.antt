@@ -10,7 +10,7 @@ use Rattle.registers.specs.State.{registersOf}
 use Rattle.registers.specs.InRange.{InRange}
 use Rattle.registers.specs.StatusByte.{bit, bitAt, pushedByte, pulledStatus}
 use Rattle.registers.specs.RoundTrip.{pulled-pushed, bit-most, pushed-byte}
-use Rattle.packing.specs.Packed.{packed, unpacked, unpackedNmi}
+use Rattle.numbers.specs.Packed.{packed, unpacked, unpackedNmi}
 
 module _ (a x y s p c b : ℕ) (a8 : a < 256) (x8 : x < 256) (y8 : y < 256) (s8 : s < 256) (p8 : p < 256) (c16 : c < 65536) (b1 : b ≤ 1) where
   abbrev n : ℕ

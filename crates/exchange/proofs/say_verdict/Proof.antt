@@ -3,8 +3,8 @@ use mathlib.Core.Path.{sym}
 use native.Mathlib.Omega.{arith}
 use lib.Seq.{length-take-le}
 use borrow.Author.Needs.{needs}
-use Rattle.tape_input.proofs.say_verdict.Statement.{statement}
-use Rattle.tape_input.proofs.say_verdict.Tie as tie
+use Rattle.exchange.proofs.say_verdict.Statement.{statement}
+use Rattle.exchange.proofs.say_verdict.Tie as tie
 
 slice-aggregate-say-of : tie.Need-slice-aggregate-say-of
 slice-aggregate-say-of c = sym (length-take-le _ _ (omega (arith, c .before .before .put-sentence .ensures .1)))

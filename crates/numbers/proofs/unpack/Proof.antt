@@ -1,8 +1,8 @@
 -- Each part is the definition's.
 use borrow.Author.Needs.{needs}
-use Rattle.packing.specs.Packed.{unpacked}
-use Rattle.packing.proofs.unpack.Statement.{statement}
-use Rattle.packing.proofs.unpack.Tie as tie
+use Rattle.numbers.specs.Packed.{unpacked}
+use Rattle.numbers.proofs.unpack.Statement.{statement}
+use Rattle.numbers.proofs.unpack.Tie as tie
 
 returns : tie.Need-returns
 unfolding unpacked

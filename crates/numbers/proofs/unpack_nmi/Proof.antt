@@ -1,8 +1,8 @@
 -- The bit is the definition's.
 use borrow.Author.Needs.{needs}
-use Rattle.packing.specs.Packed.{unpackedNmi}
-use Rattle.packing.proofs.unpack_nmi.Statement.{statement}
-use Rattle.packing.proofs.unpack_nmi.Tie as tie
+use Rattle.numbers.specs.Packed.{unpackedNmi}
+use Rattle.numbers.proofs.unpack_nmi.Statement.{statement}
+use Rattle.numbers.proofs.unpack_nmi.Tie as tie
 
 returns : tie.Need-returns
 unfolding unpackedNmi

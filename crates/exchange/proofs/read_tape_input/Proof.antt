@@ -3,8 +3,8 @@ use mathlib.Core.Path.{refl}
 use native.Mathlib.Omega.{arith}
 use Rattle.console.specs.Failing.{stays-on}
 use borrow.Author.Needs.{needs}
-use Rattle.tape_input.proofs.read_tape_input.Statement.{statement}
-use Rattle.tape_input.proofs.read_tape_input.Tie as tie
+use Rattle.exchange.proofs.read_tape_input.Statement.{statement}
+use Rattle.exchange.proofs.read_tape_input.Tie as tie
 
 returns : tie.Need-returns
 returns c = search needs
