@@ -6,7 +6,7 @@
  * high, as it is at first. Bits 4 and 5 of a status byte that you pass, and bits 57 to 63 of a number, do not matter. Results
  * have bits 4 and 5 of the status byte set, as PHP pushes it, and bits 57 to 63 clear.
  *
- * What holds of every call of the functions that make steps is stated in crates/mos6502/specs/Correct.antt, and proved.
+ * What holds of every call of the functions that make steps is stated in crates/mos6502/specs/Theorems/Correct.antt, and proved.
  */
 #ifndef MOS6502_H
 #define MOS6502_H

@@ -10,7 +10,7 @@ use mir.Facts.{toZ-ofZ}
 use mir.Syntax.{w32}
 use mir.Val.{Fits, SFits, toZ, ofZ}
 use Rattle.manual.specs.Words.{signed, around}
-use Rattle.manual.specs.Theorems.IntegerLemmas.{Difference, natural, sum, negated, of-byte, same}
+use Rattle.manual.specs.Lemmas.IntegerLemmas.{Difference, natural, sum, negated, of-byte, same}
 
 -- a number that is written to 32 bits and read again
 abbrev held : ℤ → ℤ

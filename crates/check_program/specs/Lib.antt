@@ -1,3 +1,3 @@
-pub mod Ahead
-pub mod Turns
 pub mod Concluded
+pub mod Inner
+pub mod Lemmas

@@ -1,9 +1,5 @@
 pub mod Checking
-pub mod Turns
 pub mod Logs
-pub mod Accepting
+pub mod Inner
+pub mod Lemmas
 pub mod Theorems
-pub mod Honest
-pub mod Parts
-pub mod Cutting
-pub mod Overlong

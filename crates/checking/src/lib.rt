@@ -3,7 +3,7 @@
 ghost use mathlib.Core.Path.{_≡_};
 ghost use Prim.Native.Nat.{_≤_, _<_};
 ghost use lib.ListN.{length};
-ghost use Rattle.checking.specs.Cutting.{wholeEnd};
+ghost use Rattle.checking.specs.Inner.Cutting.{wholeEnd};
 ghost use Rattle.checking.specs.Checking.{partOf, checkedOf, accepted, checkedPart, closed, checkedTrace};
 use manual::FULL_MEMORY;
 use manual::Machine;

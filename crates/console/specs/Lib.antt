@@ -1,2 +1,4 @@
 pub mod Failing
 pub mod Names
+pub mod Lemmas
+pub mod Theorems

@@ -1,1 +1,1 @@
-pub mod Budget
+pub mod Lemmas

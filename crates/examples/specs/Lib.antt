@@ -1,4 +1,1 @@
-pub mod Steps
-pub mod Lines
-pub mod FirstAddress
-pub mod Cycles
+pub mod Theorems

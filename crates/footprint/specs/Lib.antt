@@ -1,5 +1,4 @@
 pub mod Places
-pub mod Arms
-pub mod Ways
-pub mod Laws
+pub mod Inner
+pub mod Lemmas
 pub mod Theorems

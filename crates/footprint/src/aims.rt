@@ -5,7 +5,7 @@ ghost use Prim.Native.Nat.{_+_};
 ghost use lib.ListN.{length};
 ghost use Rattle.manual.specs.Words.{lowByte, addressOf, joined};
 ghost use Rattle.manual.specs.Stepping.{fullMemory};
-ghost use Rattle.footprint.specs.Ways.{firstAt, absolute, pointed};
+ghost use Rattle.footprint.specs.Inner.Ways.{firstAt, absolute, pointed};
 use memory::Address;
 use memory::ZeroPage;
 use memory::address_from_bytes;

@@ -7,7 +7,7 @@ ghost use Rattle.manual.specs.Words.{lowByte, addressOf, page, joined};
 ghost use Rattle.manual.specs.Stepping.{fullMemory};
 ghost use Rattle.manual.specs.ReadList.{pointerAt};
 ghost use Rattle.footprint.specs.Places.{footprintOf};
-ghost use Rattle.footprint.specs.Ways.{readBy};
+ghost use Rattle.footprint.specs.Inner.Ways.{readBy};
 use crate::aims::above;
 use crate::aims::absolute;
 use crate::aims::indexed;

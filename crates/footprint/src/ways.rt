@@ -1,6 +1,6 @@
 // How what an opcode reads and what it stores to is found: a number for each way, and the way of each opcode, by the columns of
 // the opcode matrix. A match, and no array: the compiler would lay an array out anew at each step.
-ghost use Rattle.footprint.specs.Ways.{ReadsBy, StoresBy};
+ghost use Rattle.footprint.specs.Inner.Ways.{ReadsBy, StoresBy};
 
 // Nothing, or the byte that a mode leads to; a read lists the operands and pointers before it.
 pub(crate) const NOTHING: u8 = 0;

@@ -1,4 +1,4 @@
 pub mod Modes
 pub mod Opcodes
-pub mod Rule
-pub mod Table
+pub mod Lemmas
+pub mod Theorems

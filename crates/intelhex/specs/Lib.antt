@@ -1,6 +1,5 @@
 pub mod IntelHex
-pub mod Items
 pub mod Grammar
-pub mod Lawful
+pub mod Inner
+pub mod Lemmas
 pub mod Theorems
-pub mod Examples

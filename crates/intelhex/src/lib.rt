@@ -1,8 +1,8 @@
 // The records of Intel HEX, types 00 and 01.
 ghost use mathlib.Core.Path.{_≡_};
-ghost use Rattle.records.specs.Items.{told};
+ghost use Rattle.records.specs.Inner.Items.{told};
 ghost use Rattle.intelhex.specs.IntelHex.{hexItem};
-ghost use Rattle.intelhex.specs.Items.{sumRight, toldData, toldEnd, toldBy};
+ghost use Rattle.intelhex.specs.Inner.Items.{sumRight, toldData, toldEnd, toldBy};
 use reading::read_byte;
 use records::Found;
 use records::Item;

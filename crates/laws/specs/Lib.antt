@@ -1,4 +1,2 @@
-pub mod Agree
-pub mod LastArm
 pub mod Characters
-pub mod Repeats
+pub mod Lemmas

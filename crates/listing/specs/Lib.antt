@@ -1,6 +1,4 @@
 pub mod Lines
 pub mod Listing
-pub mod Laws
-pub mod Lengths
-pub mod Outcomes
+pub mod Lemmas
 pub mod Theorems

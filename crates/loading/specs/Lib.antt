@@ -1,8 +1,6 @@
 pub mod Answers
 pub mod Sentence
-pub mod Lengths
-pub mod Formats
 pub mod Texts
-pub mod Kinds
-pub mod Following
-pub mod Going
+pub mod Inner
+pub mod Lemmas
+pub mod Theorems

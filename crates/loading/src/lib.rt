@@ -2,11 +2,11 @@
 ghost use Prim.Native.Nat.{_≤_};
 ghost use mathlib.Core.Path.{_≡_};
 ghost use Rattle.records.specs.Contents.{laid, outcome, readOnto};
-ghost use Rattle.records.specs.Items.{told};
+ghost use Rattle.records.specs.Inner.Items.{told};
 ghost use Rattle.tapes.specs.Tapes.{tapeOf, readTape};
 ghost use Rattle.intelhex.specs.IntelHex.{readHex};
-ghost use Rattle.loading.specs.Formats.{itemOf, headSize, contentsOf};
-ghost use Rattle.loading.specs.Following.{stopAt, nextOf};
+ghost use Rattle.loading.specs.Inner.Formats.{itemOf, headSize, contentsOf};
+ghost use Rattle.loading.specs.Inner.Following.{stopAt, nextOf};
 ghost use Rattle.loading.specs.Answers.{verdictOf, withMemory};
 ghost use Rattle.loading.specs.Texts.{formatOf, readText};
 use manual::FULL_MEMORY;

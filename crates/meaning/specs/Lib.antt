@@ -1,2 +1,2 @@
-pub mod Operations
-pub mod Storing
+pub mod Inner
+pub mod Lemmas

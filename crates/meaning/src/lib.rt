@@ -1,7 +1,7 @@
 // The operations and the addressing modes by number: what each number stands for. The rows name them so.
 ghost use mathlib.Core.Path.{_≡_};
-ghost use Rattle.meaning.specs.Operations.{modeAt, operationAt};
-ghost use Rattle.meaning.specs.Storing.{storingAt};
+ghost use Rattle.meaning.specs.Inner.Operations.{modeAt, operationAt};
+ghost use Rattle.meaning.specs.Inner.Storing.{storingAt};
 use instruction::AddressingMode;
 use instruction::BranchOperation;
 use instruction::Instruction;

@@ -1,8 +1,5 @@
 pub mod Numbers
-pub mod Laws
-pub mod Rounds
-pub mod Limits
 pub mod Calls
-pub mod Behind
-pub mod Correct
-pub mod Proved
+pub mod Inner
+pub mod Lemmas
+pub mod Theorems

@@ -1,5 +1,4 @@
 pub mod Moving
-pub mod Lines
-pub mod Passing
-pub mod Outcomes
+pub mod Inner
+pub mod Lemmas
 pub mod Theorems

@@ -1,2 +1,3 @@
 pub mod Operands
-pub mod Patterns
+pub mod Inner
+pub mod Lemmas

@@ -3,7 +3,7 @@ ghost use mathlib.Core.Path.{_≡_};
 ghost use lib.ListN.{length};
 ghost use Rattle.text.specs.Written.{Wrote};
 ghost use Rattle.notation.specs.Operands.{operand};
-ghost use Rattle.notation.specs.Patterns.{patternOf, standsFor, filled};
+ghost use Rattle.notation.specs.Inner.Patterns.{patternOf, standsFor, filled};
 use arithmetic::branch_target;
 use instruction::AddressingMode;
 use memory::Address;

@@ -1,3 +1,3 @@
 pub mod Packed
-pub mod RoundTrip
 pub mod Machines
+pub mod Lemmas

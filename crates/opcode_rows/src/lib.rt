@@ -5,7 +5,7 @@ ghost use lib.ListN.{length};
 ghost use Rattle.instruction.specs.Opcodes.{decoded};
 ghost use Rattle.manual.specs.Micro.{Gives};
 ghost use Rattle.manual.specs.Stepping.{fullMemory};
-ghost use Rattle.rows.specs.Performing.{dispatched, finished};
+ghost use Rattle.rows.specs.Inner.Performing.{dispatched, finished};
 use meaning::number::*;
 use registers::Registers;
 use rows::Dispatched;

@@ -1,7 +1,7 @@
 // The opcode table, after decode of instruction.rs: three arrays of numbers, a row for each high digit of the opcode.
 ghost use mathlib.Core.Path.{_≡_};
 ghost use Rattle.instruction.specs.Opcodes.{decoded};
-ghost use Rattle.opcodes.specs.Arrays.{IsTable};
+ghost use Rattle.opcodes.specs.Inner.Arrays.{IsTable};
 use instruction::Decoded;
 use instruction::Entry;
 use meaning::mode_at;

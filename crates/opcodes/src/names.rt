@@ -2,7 +2,7 @@
 ghost use mathlib.Core.Path.{_≡_};
 ghost use Rattle.instruction.specs.Opcodes.{decoded};
 ghost use Rattle.opcodes.specs.Names.{nameOf};
-ghost use Rattle.opcodes.specs.NameTable.{names as NameTable·names};
+ghost use Rattle.opcodes.specs.Inner.NameTable.{names as NameTable·names};
 use crate::table;
 
 // Three letters for each operation, by number.

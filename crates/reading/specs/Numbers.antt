@@ -1,11 +1,9 @@
 -- What stands at a place of a text: a digit, a number, a mark.
-use Prim.Native.Nat.{ℕ, zero, suc, _+_, _-_, _*_, _/_, _<_}
-use mathlib.Core.Path.{_≡_, refl}
+use Prim.Native.Nat.{ℕ, zero, suc, _+_, _-_, _*_, _/_}
 use mathlib.Core.Bool.{cond}
 use mathlib.Core.List.{List, [], _∷_}
-use lib.Dec.{eqb, leb, ltb}
+use lib.Dec.{eqb, ltb}
 use lib.ListN.{length, getD}
-use Rattle.laws.specs.Agree.{agree}
 use Rattle.laws.specs.Characters.{characters}
 use Rattle.reading.specs.declared.Byte.{Byte}
 use Rattle.reading.specs.declared.Word.{Word}
@@ -27,18 +25,6 @@ placeIn (d ∷ ds) b = cond (eqb b d) 0 (suc (placeIn ds b))
 -- the value of a digit, 16 for any other character
 unfoldable pub digitValue : ℕ → ℕ
 digitValue b = placeIn digits b
-
--- the same by ranges, as the code tests them
-abbrev pub valueByRange : ℕ → ℕ
-valueByRange b =
-    cond (ltb b 48) 16
-    (cond (leb b 57) (b - 48)
-    (cond (ltb b 65) 16
-    (cond (leb b 70) (b - 65 + 10) 16)))
-
-pub by-range : (b : ℕ) → b < 256 → digitValue b ≡ valueByRange b
-unfolding digitValue
-by-range = agree digitValue valueByRange 256 refl
 
 abbrev pub noDigit : Byte
 noDigit = record { value = 0; next = nowhere }

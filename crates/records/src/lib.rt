@@ -2,8 +2,8 @@
 ghost use mathlib.Core.Path.{_≡_};
 ghost use lib.ListN.{drop};
 ghost use Rattle.records.specs.Records.{bytesOf, recordOf, separator};
-ghost use Rattle.records.specs.Gaps.{gapEnd};
-ghost use Rattle.records.specs.Reading.{summed, found, valuesAt};
+ghost use Rattle.records.specs.Inner.Gaps.{gapEnd};
+ghost use Rattle.records.specs.Inner.Reading.{summed, found, valuesAt};
 ghost use Rattle.text.specs.Written.{Wrote};
 use reading::NOWHERE;
 use reading::read_byte;

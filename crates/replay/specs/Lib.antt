@@ -1,4 +1,4 @@
 pub mod Comparison
 pub mod SameBytes
 pub mod Verdicts
-pub mod Laws
+pub mod Lemmas

@@ -1,3 +1,4 @@
 pub mod Status
 pub mod Named
+pub mod Lemmas
 pub mod Theorems

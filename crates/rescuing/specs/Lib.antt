@@ -1,11 +1,5 @@
 pub mod Rescuing
 pub mod Sentence
-pub mod Lengths
-pub mod Laws
+pub mod Inner
+pub mod Lemmas
 pub mod Theorems
-pub mod Losses
-pub mod Passing
-pub mod Outcomes
-pub mod Buffers
-pub mod Kept
-pub mod Examples

@@ -1,2 +1,2 @@
-pub mod Performing
-pub mod Rows
+pub mod Inner
+pub mod Theorems

@@ -1,7 +1,7 @@
 // What a row of the opcode table gives: an operation, an addressing mode and base cycles carried out.
 ghost use mathlib.Core.Path.{_≡_};
 ghost use Prim.Native.Nat.{_+_, _≤_};
-ghost use Rattle.rows.specs.Performing.{ticksOf, performedFrom, finished};
+ghost use Rattle.rows.specs.Inner.Performing.{ticksOf, performedFrom, finished};
 use alu::add_with_carry;
 use alu::subtract_with_carry;
 use manual::Effect;

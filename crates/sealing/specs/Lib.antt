@@ -1,5 +1,4 @@
 pub mod Extract
 pub mod Words
-pub mod Laws
+pub mod Lemmas
 pub mod Theorems
-pub mod Oath

@@ -1,3 +1,3 @@
 pub mod Line
 pub mod Sentence
-pub mod Laws
+pub mod Lemmas

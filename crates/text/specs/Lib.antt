@@ -1,6 +1,5 @@
 pub mod Written
 pub mod Numerals
-pub mod Laws
-pub mod Left
 pub mod Delivered
+pub mod Lemmas
 pub mod Theorems

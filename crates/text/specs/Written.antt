@@ -1,7 +1,7 @@
 -- Text that is written into a lent buffer. `sets l at t` of `lib.Seq` is the list l with the characters of t stored from index `at` on;
 -- what would stand past the end of l is dropped. So a writer needs no room: it answers where its text ends, whether or not all of it
 -- fitted, and only at the largest `usize` does that place stop.
-use mathlib.Core.Path.{_≡_, sym, _∙_}
+use mathlib.Core.Path.{_≡_}
 use mathlib.Core.List.{List}
 use Prim.Native.Nat.{ℕ, _+_, _≤_, min}
 use lib.ListN.{length}
@@ -15,7 +15,3 @@ pub record Wrote (l : List ℕ) (at : ℕ) (t l′ : List ℕ) (next : ℕ) : Ty
   pub fits : length l ≤ most
   pub bytes : l′ ≡ sets l at t
   pub ends : next ≡ min (at + length t) most
-
--- The promise admits one result only: one buffer, and one place.
-pub one-text : {l t m₁ m₂ : List ℕ} {at n₁ n₂ : ℕ} → Wrote l at t m₁ n₁ → Wrote l at t m₂ n₂ → (m₁ ≡ m₂) × (n₁ ≡ n₂)
-one-text p q = (p .bytes ∙ sym (q .bytes), p .ends ∙ sym (q .ends))

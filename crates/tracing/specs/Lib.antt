@@ -1,3 +1,3 @@
 pub mod Entries
 pub mod Findings
-pub mod Laws
+pub mod Lemmas

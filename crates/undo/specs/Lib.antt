@@ -1,4 +1,3 @@
 pub mod Following
-pub mod Restoring
-pub mod Laws
-pub mod Theorems
+pub mod Inner
+pub mod Lemmas

@@ -3,7 +3,7 @@ ghost use mathlib.Core.Path.{_≡_};
 ghost use lib.ListN.{length};
 ghost use Rattle.manual.specs.Stepping.{fullMemory};
 ghost use Rattle.undo.specs.Following.{sameRegisters, sameMachine, leadsTo, followed};
-ghost use Rattle.undo.specs.Restoring.{putBack};
+ghost use Rattle.undo.specs.Inner.Restoring.{putBack};
 use cpu::single_step;
 use footprint::stores_of;
 use manual::FULL_MEMORY;

@@ -1,4 +1,3 @@
 pub mod Guarded
-pub mod Laws
+pub mod Lemmas
 pub mod Theorems
-pub mod Sealed

@@ -7,7 +7,7 @@ ghost use Rattle.manual.specs.Outcomes.{machineOf};
 ghost use Rattle.manual.specs.Interrupts.{due};
 ghost use Rattle.manual.specs.Stepping.{fullMemory};
 ghost use Rattle.manual.specs.ReadList.{listedDue};
-ghost use Rattle.cpu.specs.Turning.{raised, Calm, Fits, stretch};
+ghost use Rattle.cpu.specs.Inner.Turning.{raised, Calm, Fits, stretch};
 ghost use Rattle.witness.specs.Guarded.{inPages, inStretch, inEither, firstSealed, ran, halted, guardedFull, guarded, longGuarded};
 use cpu::fitting;
 use cpu::reach;

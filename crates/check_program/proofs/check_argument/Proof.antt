@@ -1,6 +1,6 @@
 -- The image is what was read.
 use mathlib.Core.Path.{_∙_}
-use Rattle.console.specs.Failing.{stays-on}
+use Rattle.console.specs.Theorems.Failing.{stays-on}
 use borrow.Author.Needs.{needs}
 use Rattle.check_program.proofs.check_argument.Statement.{statement}
 use Rattle.check_program.proofs.check_argument.Tie as tie

@@ -3,8 +3,8 @@ use mathlib.Core.Path.{refl}
 use native.Mathlib.Omega.{arith}
 use denote.Ref.{now}
 use lib.ListN.{length}
-use Rattle.console.specs.Failing.{stays-on}
-use Rattle.check_program.specs.Concluded.{concluded, not-concluded, no-image}
+use Rattle.console.specs.Theorems.Failing.{stays-on}
+use Rattle.check_program.specs.Lemmas.Concluded.{concluded, not-concluded, no-image}
 use borrow.Author.Needs.{needs}
 use Rattle.check_program.proofs.check_on.Statement.{statement}
 use Rattle.check_program.proofs.check_on.Tie as tie

@@ -5,7 +5,7 @@ use native.Mathlib.Omega.{arith}
 use denote.Ref.{now}
 use lib.ListN.{length, drop}
 use Rattle.checking.specs.Checking.{later, checkedPart}
-use Rattle.checking.specs.Turns.{long-line, inside-line, turn-end, turn-malformed, turn-accepted, turn-astray, told}
+use Rattle.checking.specs.Lemmas.Turns.{long-line, inside-line, turn-end, turn-malformed, turn-accepted, turn-astray, told}
 use borrow.Author.Needs.{needs}
 use Rattle.checking.proofs.check_part.Statement.{statement}
 use Rattle.checking.proofs.check_part.Tie as tie

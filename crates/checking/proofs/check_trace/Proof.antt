@@ -1,6 +1,6 @@
 -- The two lengths are tested before anything is written; the copy starts as the image.
 use native.Mathlib.Omega.{arith}
-use Rattle.checking.specs.Turns.{told, short-image, short-copy, all-checked}
+use Rattle.checking.specs.Lemmas.Turns.{told, short-image, short-copy, all-checked}
 use borrow.Author.Needs.{needs}
 use Rattle.checking.proofs.check_trace.Statement.{statement}
 use Rattle.checking.proofs.check_trace.Tie as tie

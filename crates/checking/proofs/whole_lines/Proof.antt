@@ -3,7 +3,8 @@ use Prim.Native.Nat.{_≤_}
 use mathlib.Core.Path.{_≡_, refl, sym, _∙_}
 use native.Mathlib.Omega.{arith}
 use lib.ListN.{length}
-use Rattle.checking.specs.Cutting.{endBefore, wholeEnd, end-here, end-before, end-none}
+use Rattle.checking.specs.Inner.Cutting.{endBefore, wholeEnd}
+use Rattle.checking.specs.Theorems.Cutting.{end-here, end-before, end-none}
 use borrow.Author.Needs.{needs}
 use Rattle.checking.proofs.whole_lines.Statement.{statement}
 use Rattle.checking.proofs.whole_lines.Tie as tie

@@ -1,7 +1,7 @@
 -- The length is tested before any step.
 use mathlib.Core.Path.{_∙_}
 use borrow.Author.Needs.{needs}
-use Rattle.manual.specs.Theorems.StepLaws.{long-short, long-whole}
+use Rattle.manual.specs.Lemmas.StepLaws.{long-short, long-whole}
 use Rattle.cpu.proofs.long_run.Statement.{statement}
 use Rattle.cpu.proofs.long_run.Tie as tie
 

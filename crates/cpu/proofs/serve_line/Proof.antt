@@ -3,8 +3,8 @@ use mathlib.Core.Path.{refl, _∙_}
 use borrow.Author.Needs.{needs}
 use denote.Ref.{now}
 use Rattle.manual.specs.Interrupts.{served}
-use Rattle.manual.specs.Theorems.Programs.{then}
-use Rattle.cpu.specs.Turning.{serving}
+use Rattle.manual.specs.Lemmas.Programs.{then}
+use Rattle.cpu.specs.Inner.Turning.{serving}
 use Rattle.cpu.proofs.serve_line.Statement.{statement}
 use Rattle.cpu.proofs.serve_line.Tie as tie
 

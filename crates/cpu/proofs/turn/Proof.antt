@@ -2,7 +2,7 @@
 use mathlib.Core.Path.{sym, _∙_}
 use borrow.Author.Needs.{needs}
 use Rattle.manual.specs.Theorems.Ranges.{vector-within}
-use Rattle.cpu.specs.Turning.{turn-late, turn-serves, turn-walks}
+use Rattle.cpu.specs.Lemmas.Turning.{turn-late, turn-serves, turn-walks}
 use Rattle.cpu.proofs.turn.Statement.{statement}
 use Rattle.cpu.proofs.turn.Tie as tie
 

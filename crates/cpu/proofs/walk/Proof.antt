@@ -12,12 +12,14 @@ use Rattle.manual.specs.Outcomes.{machineOf}
 use Rattle.manual.specs.Stepping.{fullMemory, highestCount, stepFull}
 use Rattle.rows.specs.declared.Dispatched.{Dispatched}
 use Rattle.rows.specs.declared.Performed.{Performed}
-use Rattle.rows.specs.Performing.{ticksOf}
+use Rattle.rows.specs.Inner.Performing.{ticksOf}
 use Rattle.cpu.specs.declared.Travelled.{Travelled}
-use Rattle.cpu.specs.Clock.{stepsIn, cyclesIn, Keeps, no-step, last-cycles, less-steps, more-cycles, less}
-use Rattle.cpu.specs.Steps.{stepBy, StepsBy, step-by}
-use Rattle.cpu.specs.Travelling.{travelling, travel-end, travel-made, travel-halts, travel-same, travel-first}
-use Rattle.cpu.specs.Turning.{raised, raised-quiet}
+use Rattle.cpu.specs.Lemmas.Clock.{stepsIn, cyclesIn, Keeps, no-step, last-cycles, less-steps, more-cycles, less}
+use Rattle.cpu.specs.Theorems.Steps.{stepBy, StepsBy, step-by}
+use Rattle.cpu.specs.Inner.Travelling.{travelling}
+use Rattle.cpu.specs.Lemmas.Travelling.{travel-end, travel-made, travel-halts, travel-same, travel-first}
+use Rattle.cpu.specs.Inner.Turning.{raised}
+use Rattle.cpu.specs.Lemmas.Turning.{raised-quiet}
 use Rattle.cpu.proofs.walk.Statement.{statement}
 use Rattle.cpu.proofs.walk.Tie as tie
 

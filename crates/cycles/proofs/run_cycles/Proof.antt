@@ -8,9 +8,9 @@ use borrow.Author.Tests.{not-true, not-false}
 use denote.Ref.{now}
 use lib.ListN.{length}
 use Rattle.manual.specs.Stepping.{fullMemory}
-use Rattle.manual.specs.Theorems.StepLaws.{long-whole}
+use Rattle.manual.specs.Lemmas.StepLaws.{long-whole}
 use Rattle.manual.specs.Theorems.Spending.{cycles-short, cycles-long, cycles-whole}
-use Rattle.cycles.specs.Budget.{Budget, unspent, spent, Pays, pays}
+use Rattle.cycles.specs.Lemmas.Budget.{Budget, unspent, spent, Pays, pays}
 use Rattle.cycles.proofs.run_cycles.Statement.{statement}
 use Rattle.cycles.proofs.run_cycles.Tie as tie
 

@@ -55,7 +55,7 @@ use Rattle.manual.proofs.Stepped as S
 use Rattle.manual.proofs.Stepped.Laws as S′
 use Rattle.desk.specs.declared.StepAnswer.{StepAnswer}
 use Rattle.desk.specs.Record.{stepRecord}
-use Rattle.desk.specs.Theorems.{by-value}
+use Rattle.desk.specs.Theorems.Record.{by-value}
 use Rattle.desk.proofs.Values.{mach, lined, answer-with}
 use Rattle.desk.proofs.StepAnswer as B
 use Rattle.desk.proofs.StepAnswer.Laws as B′

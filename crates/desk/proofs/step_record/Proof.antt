@@ -57,7 +57,7 @@ use Rattle.cpu.proofs.single_step.Symbol as callee-def
 use Rattle.cpu.proofs.single_step.Symbol.{name as #cpu·single-step}
 use Rattle.cpu.proofs.single_step.Met as callee-thm
 use Rattle.desk.specs.Record.{told}
-use Rattle.desk.specs.Theorems.{on-record}
+use Rattle.desk.specs.Theorems.Record.{on-record}
 use Rattle.desk.proofs.Values.{mach, lined, answer}
 use Rattle.desk.proofs.StepAnswer as B
 use Rattle.desk.proofs.StepAnswer.Laws as B′

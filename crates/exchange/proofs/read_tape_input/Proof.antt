@@ -1,7 +1,7 @@
 -- What failed first stays.
 use mathlib.Core.Path.{refl}
 use native.Mathlib.Omega.{arith}
-use Rattle.console.specs.Failing.{stays-on}
+use Rattle.console.specs.Theorems.Failing.{stays-on}
 use borrow.Author.Needs.{needs}
 use Rattle.exchange.proofs.read_tape_input.Statement.{statement}
 use Rattle.exchange.proofs.read_tape_input.Tie as tie

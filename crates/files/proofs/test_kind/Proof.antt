@@ -1,5 +1,5 @@
 -- What failed first stays.
-use Rattle.console.specs.Failing.{stays-on}
+use Rattle.console.specs.Theorems.Failing.{stays-on}
 use borrow.Author.Needs.{needs}
 use Rattle.files.proofs.test_kind.Statement.{statement}
 use Rattle.files.proofs.test_kind.Tie as tie

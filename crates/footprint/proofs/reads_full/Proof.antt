@@ -4,7 +4,7 @@ use denote.Ref.{now}
 use borrow.Author.Needs.{needs}
 use Rattle.manual.specs.Theorems.Ranges.{vector-within}
 use Rattle.footprint.specs.Places.{footprintOf}
-use Rattle.footprint.specs.Laws.{late-list, due-list}
+use Rattle.footprint.specs.Lemmas.Footprints.{late-list, due-list}
 use Rattle.footprint.proofs.reads_full.Statement.{statement}
 use Rattle.footprint.proofs.reads_full.Tie as tie
 

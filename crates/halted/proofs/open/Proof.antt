@@ -4,7 +4,7 @@ use native.Mathlib.Omega.{arith}
 use lib.ListN.{length}
 use lib.Seq.{take-all, length-take-le}
 use borrow.Author.Needs.{needs}
-use Rattle.halted.specs.Laws.{opens, whole, longer, plain}
+use Rattle.halted.specs.Lemmas.Opening.{opens, whole, longer, plain}
 use Rattle.halted.proofs.open.Statement.{statement}
 use Rattle.halted.proofs.open.Tie as tie
 

@@ -5,7 +5,7 @@ use native.Mathlib.Omega.{arith}
 use lib.ListN.{length}
 use lib.Seq.{length-take-le}
 use borrow.Author.Needs.{needs}
-use Rattle.halted.specs.Laws.{after-memory}
+use Rattle.halted.specs.Lemmas.Opening.{after-memory}
 use Rattle.halted.proofs.put_state.Statement.{statement}
 use Rattle.halted.proofs.put_state.Tie as tie
 

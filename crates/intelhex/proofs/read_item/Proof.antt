@@ -2,7 +2,7 @@
 use mathlib.Core.Path.{sym, _∙_}
 use native.Mathlib.Omega.{arith}
 use borrow.Author.Needs.{needs}
-use Rattle.intelhex.specs.Items.{item-malformed, item-by-parts}
+use Rattle.intelhex.specs.Lemmas.Items.{item-malformed, item-by-parts}
 use Rattle.intelhex.proofs.read_item.Statement.{statement}
 use Rattle.intelhex.proofs.read_item.Tie as tie
 

@@ -1,6 +1,6 @@
 -- What is listed is what was read.
 use borrow.Author.Tests.{ne-eqb}
-use Rattle.console.specs.Failing.{stays-on}
+use Rattle.console.specs.Theorems.Failing.{stays-on}
 use borrow.Author.Needs.{needs}
 use Rattle.list.proofs.list_argument.Statement.{statement}
 use Rattle.list.proofs.list_argument.Tie as tie

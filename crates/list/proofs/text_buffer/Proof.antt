@@ -1,5 +1,5 @@
 -- The length of a repeat, by its law: it is too long to be counted out.
-use Rattle.laws.specs.Repeats.{repeat-length}
+use Rattle.laws.specs.Lemmas.Repeats.{repeat-length}
 use Rattle.list.proofs.text_buffer.Statement.{statement}
 use Rattle.list.proofs.text_buffer.Tie as tie
 

@@ -1,9 +1,9 @@
 -- One law for each way out. The length of the text is what its first writing answers.
 use native.Mathlib.Omega.{arith}
 use denote.Ref.{now}
-use Rattle.text.specs.Delivered.{all-written, no-room}
+use Rattle.text.specs.Lemmas.Delivered.{all-written, no-room}
 use Rattle.listing.specs.Listing.{listing}
-use Rattle.listing.specs.Outcomes.{to-the-last, listing-length, not-full, backwards, in-order}
+use Rattle.listing.specs.Lemmas.Outcomes.{to-the-last, listing-length, not-full, backwards, in-order}
 use Rattle.listing.proofs.list.Statement.{statement}
 use Rattle.listing.proofs.list.Tie as tie
 

@@ -3,7 +3,7 @@ use mathlib.Core.Path.{sym, ap, _∙_}
 use native.Mathlib.Omega.{arith}
 use lib.ListN.{take}
 use lib.Seq.{length-take-le}
-use Rattle.load.specs.Laws.{take-zeros}
+use Rattle.load.specs.Lemmas.Zeros.{take-zeros}
 use borrow.Author.Needs.{needs}
 use Rattle.load.proofs.load_zeros.Statement.{statement}
 use Rattle.load.proofs.load_zeros.Tie as tie

@@ -1,7 +1,7 @@
 -- One law for each way out, of what stands where the first gap ends.
 use denote.Ref.{now}
 use borrow.Author.Needs.{needs}
-use Rattle.loading.specs.Kinds.{no-format, hex-format, tape-format}
+use Rattle.loading.specs.Theorems.Kinds.{no-format, hex-format, tape-format}
 use Rattle.loading.proofs.format_of.Statement.{statement}
 use Rattle.loading.proofs.format_of.Tie as tie
 

@@ -5,8 +5,8 @@ use native.Mathlib.Omega.{arith}
 use denote.Ref.{now}
 use lib.ListN.{length}
 use Rattle.records.specs.Contents.{laid, outcome}
-use Rattle.loading.specs.Formats.{contentsOf}
-use Rattle.loading.specs.Going.{leftAt, stops, comes, lay-stop, lay-data}
+use Rattle.loading.specs.Inner.Formats.{contentsOf}
+use Rattle.loading.specs.Lemmas.Going.{leftAt, stops, comes, lay-stop, lay-data}
 use borrow.Author.Needs.{needs}
 use Rattle.loading.proofs.lay.Statement.{statement}
 use Rattle.loading.proofs.lay.Tie as tie

@@ -2,8 +2,8 @@
 use mathlib.Core.Path.{_∙_}
 use native.Mathlib.Omega.{arith}
 use denote.Ref.{now}
-use Rattle.loading.specs.Formats.{head-small}
-use Rattle.loading.specs.Following.{no-more, next-bad, next-stray, next-end, next-data}
+use Rattle.loading.specs.Lemmas.Formats.{head-small}
+use Rattle.loading.specs.Lemmas.Following.{no-more, next-bad, next-stray, next-end, next-data}
 use borrow.Author.Needs.{needs}
 use Rattle.loading.proofs.next_record.Statement.{statement}
 use Rattle.loading.proofs.next_record.Tie as tie

@@ -1,8 +1,8 @@
 -- The first round finds what the text is, whatever it is laid onto; the second leaves the memory.
 use denote.Ref.{now}
-use Rattle.records.specs.Onto.{read-short}
-use Rattle.loading.specs.Formats.{contentsOf}
-use Rattle.loading.specs.Going.{read-refused, read-laid}
+use Rattle.records.specs.Lemmas.Onto.{read-short}
+use Rattle.loading.specs.Inner.Formats.{contentsOf}
+use Rattle.loading.specs.Lemmas.Going.{read-refused, read-laid}
 use borrow.Author.Needs.{needs}
 use Rattle.loading.proofs.read.Statement.{statement}
 use Rattle.loading.proofs.read.Tie as tie

@@ -2,7 +2,7 @@
 use mathlib.Core.Path.{_∙_}
 use denote.Ref.{now}
 use borrow.Author.Needs.{needs}
-use Rattle.loading.specs.Kinds.{by-format}
+use Rattle.loading.specs.Theorems.Kinds.{by-format}
 use Rattle.loading.proofs.read_text.Statement.{statement}
 use Rattle.loading.proofs.read_text.Tie as tie
 

@@ -1,5 +1,4 @@
--- What a step reads and stores to, in one list and in order: the rules' reads (ReadList), then the stores. Only two instructions read
--- after they have pushed: BRK its vector, as a served line does, and JSR the high byte of its operand. A store for each written byte: a store's target, a modified byte's, and what is pushed.
+-- Laws of Aims.antt.
 use Prim.Native.Nat.{ℕ, _+_}
 use mathlib.Core.Path.{_≡_, refl, ap, ap₂, _∙_}
 use mathlib.Core.Bool.{Bool, true, not, cond, _&&_, _||_}
@@ -17,49 +16,23 @@ use Rattle.instruction.specs.declared.AddressingMode.the-variants.{Accumulator,
 use Rattle.instruction.specs.declared.Entry.{Entry}
 use Rattle.instruction.specs.declared.Decoded.{Decoded}
 use Rattle.instruction.specs.declared.Decoded.the-variants.{Defined, Undefined}
-use Rattle.instruction.specs.Modes.{operandBytes}
 use Rattle.instruction.specs.Opcodes.{rows, decoded}
-use Rattle.instruction.specs.Rule.{every-entry}
+use Rattle.instruction.specs.Lemmas.Rule.{every-entry}
 use Rattle.manual.specs.declared.Lines.{Lines}
 use Rattle.manual.specs.declared.Machine.{Machine}
 use Rattle.manual.specs.declared.Due.{Due}
 use Rattle.manual.specs.declared.Due.the-variants.{Through, Quiet}
 use Rattle.manual.specs.declared.Target.{Target}
 use Rattle.manual.specs.Micro.{Micro, read, exec, Access, readAt, storeAt, accesses, readsOf, storesOf, _>>=_}
-use Rattle.manual.specs.Words.{lowByte, joined}
+use Rattle.manual.specs.Words.{lowByte}
 use Rattle.manual.specs.Addressing.{target}
 use Rattle.manual.specs.Stack.{push, pull, pushAddress, pullAddress}
 use Rattle.manual.specs.Interrupts.{enter, served, due}
 use Rattle.manual.specs.Instructions.{modify, perform}
 use Rattle.manual.specs.Stepping.{fullMemory, highestCount, act, attend, stepFull, step}
 use Rattle.manual.specs.ReadList.{addressed, operands, pointers, reached, listed, listedDue}
-use Rattle.manual.specs.Theorems.Programs.{accesses-bind, reads-append, stores-append, alike}
-
--- ---- the list
-
--- the address that the mode leads to
-abbrev pub aim : AddressingMode → Registers → List ℕ → ℕ
-aim mode r m = exec (target mode r) m .0 .address
-
--- the places of three pushes
-abbrev pub threePushed : Registers → List ℕ
-threePushed r = joined 1 (r .stack .0) ∷ joined 1 (lowByte (r .stack .0 + 255)) ∷ joined 1 (lowByte (r .stack .0 + 254)) ∷ []
-
-abbrev pub storedTo : Instruction → AddressingMode → Registers → List ℕ → List ℕ
-storedTo (Read k) mode r m = []
-storedTo (Store k) mode r m = aim mode r m ∷ []
-storedTo (Modify k) mode r m = cond (eqb (operandBytes mode) 0) [] (aim mode r m ∷ [])
-storedTo (Branch k) mode r m = []
-storedTo (Internal k) mode r m = []
-storedTo JMP mode r m = []
-storedTo JSR mode r m = joined 1 (r .stack .0) ∷ joined 1 (lowByte (r .stack .0 + 255)) ∷ []
-storedTo RTS mode r m = []
-storedTo RTI mode r m = []
-storedTo PLA mode r m = []
-storedTo PLP mode r m = []
-storedTo PHA mode r m = joined 1 (r .stack .0) ∷ []
-storedTo PHP mode r m = joined 1 (r .stack .0) ∷ []
-storedTo BRK mode r m = threePushed r
+use Rattle.manual.specs.Lemmas.Programs.{accesses-bind, reads-append, stores-append, alike}
+use Rattle.manual.specs.Aims.{aim, threePushed, storedTo}
 
 -- which of the two come first
 pub data Order : Type 0 where

@@ -20,7 +20,7 @@ use Rattle.manual.specs.Micro.{exec, Gives}
 use Rattle.manual.specs.Outcomes.{number, refused}
 use Rattle.manual.specs.Interrupts.{due}
 use Rattle.manual.specs.Stepping.{fullMemory, highestCount, stepFull, step}
-use Rattle.manual.specs.Theorems.StepLaws.{opcodeOf, step-short, step-whole, step-late, step-serves, step-undefined, step-defined}
+use Rattle.manual.specs.Lemmas.StepLaws.{opcodeOf, step-short, step-whole, step-late, step-serves, step-undefined, step-defined}
 
 -- why a step on a full memory is refused: no room, or, with no line to serve, no opcode
 abbrev pub NoRoom : Machine → Type 0

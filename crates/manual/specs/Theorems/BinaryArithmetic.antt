@@ -15,7 +15,7 @@ use Rattle.registers.specs.State.{setNZ, setC, setStatus, flags}
 use Rattle.manual.specs.Arithmetic.{sumOverflows, differenceOverflows, binarySum, binaryDifference}
 use Rattle.manual.specs.Flags.{shown}
 use Rattle.manual.specs.Branching.{compared}
-use Rattle.manual.specs.Theorems.IntegerLemmas.{by-test, flag-iff, bit-not, bit-test, Difference, natural, sum, negated, of-byte, signed-byte}
+use Rattle.manual.specs.Lemmas.IntegerLemmas.{by-test, flag-iff, bit-not, bit-test, Difference, natural, sum, negated, of-byte, signed-byte}
 
 -- a signed number that a byte has: minus 128 to 127
 pub record FitsByte (z : ℤ) : Type 0 where

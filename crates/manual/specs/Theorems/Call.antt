@@ -14,7 +14,7 @@ use Rattle.manual.specs.Words.{joined}
 use Rattle.manual.specs.Addressing.{operand}
 use Rattle.manual.specs.Stack.{push, pushAddress}
 use Rattle.manual.specs.Instructions.{perform}
-use Rattle.manual.specs.Theorems.Programs.{_∈_, untouched}
+use Rattle.manual.specs.Lemmas.Programs.{_∈_, untouched}
 
 module _ (mode : AddressingMode) (r : Registers) (m : List ℕ) where
   -- the two places of the return address

@@ -9,7 +9,7 @@ use lib.IntN.{pos, negℤ, _-ℤ_}
 use Rattle.registers.specs.StatusByte.{bit}
 use Rattle.manual.specs.Words.{lowByte, signed, outside}
 use Rattle.manual.specs.Arithmetic.{sumOverflows, differenceOverflows, binarySum, binaryDifference}
-use Rattle.manual.specs.Theorems.IntegerLemmas.{by-test, bit-not, natural, sum, negated, of-byte, same}
+use Rattle.manual.specs.Lemmas.IntegerLemmas.{by-test, bit-not, natural, sum, negated, of-byte, same}
 
 -- As a signed number the complement of a byte is one less than its negative.
 pub signed-complement : (m : ℕ) → m < 256 → signed (255 - m) ≡ negℤ (pos 1) -ℤ signed m

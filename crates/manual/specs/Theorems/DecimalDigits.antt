@@ -10,7 +10,7 @@ use Rattle.registers.specs.StatusByte.{bit}
 use Rattle.manual.specs.declared.ArithmeticOutput.{ArithmeticOutput}
 use Rattle.manual.specs.Arithmetic.{sumOverflows, differenceOverflows}
 use Rattle.manual.specs.Decimal.{isDecimal, valueOf, digitsOf, manualSum, manualDifference, sumDigit, differenceDigit, twoDigits, rustSum, rustDifference, withOverflow, decimalSum, decimalDifference}
-use Rattle.manual.specs.Theorems.IntegerLemmas.{by-test, bit-not}
+use Rattle.manual.specs.Lemmas.IntegerLemmas.{by-test, bit-not}
 
 -- a number whose two digits are 0 to 9
 pub record Decimal (b : ℕ) : Type 0 where

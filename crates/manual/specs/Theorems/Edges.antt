@@ -15,7 +15,7 @@ use Rattle.manual.specs.declared.Reason.the-variants.{Made, MemoryNotFul
 use Rattle.manual.specs.Outcomes.{refused, ended}
 use Rattle.manual.specs.Interrupts.{due}
 use Rattle.manual.specs.Stepping.{stepFull, step, runWhile, runFull, run}
-use Rattle.manual.specs.Theorems.StepLaws.{opcodeOf, step-late}
+use Rattle.manual.specs.Lemmas.StepLaws.{opcodeOf, step-late}
 use Rattle.manual.specs.Theorems.Answers.{stepAnswer, step-answers}
 use Rattle.manual.specs.Theorems.RunAnswers.{no-cycle-room, ran, run-answers}
 

@@ -25,7 +25,7 @@ use Rattle.manual.specs.Stepping.{fullMemory, highestCount, step}
 use Rattle.manual.specs.ReadList.{addressed, operands, pointers, reached, listed, listedEntry, listedDue}
 use Rattle.manual.specs.Theorems.Accesses.{is, suits, entry-suits}
 use Rattle.manual.specs.Theorems.Reads.{step-reads}
-use Rattle.manual.specs.Theorems.Programs.{either}
+use Rattle.manual.specs.Lemmas.Programs.{either}
 
 -- at most so many
 abbrev pub Few : ℕ → List ℕ → Type 0

@@ -17,7 +17,7 @@ use Rattle.instruction.specs.declared.ModifyOperation.{ModifyOperation}
 use Rattle.instruction.specs.declared.Entry.{Entry}
 use Rattle.instruction.specs.declared.Decoded.the-variants.{Defined}
 use Rattle.instruction.specs.Opcodes.{rows, decoded}
-use Rattle.instruction.specs.Rule.{every-entry}
+use Rattle.instruction.specs.Lemmas.Rule.{every-entry}
 use Rattle.instruction.specs.declared.AddressingMode.{AddressingMode}
 use Rattle.instruction.specs.declared.AddressingMode.the-variants.{Accumulator, Implied, Immediate, ZeroPage, ZeroPageX, ZeroPageY, Relative, Absolute, AbsoluteX, AbsoluteY, BuggyIndirect, IndexedIndirectX, IndirectIndexedY}
 use Rattle.manual.specs.declared.Lines.{Lines}
@@ -36,8 +36,8 @@ use Rattle.manual.specs.Interrupts.{enter, due}
 use Rattle.manual.specs.Instructions.{advanced, modify, perform}
 use Rattle.manual.specs.Stepping.{fullMemory, highestCount, stepFull, step}
 use Rattle.manual.specs.ReadList.{addressed}
-use Rattle.manual.specs.Theorems.Programs.{exec-bind}
-use Rattle.manual.specs.Theorems.StepLaws.{opcodeOf, step-short, step-whole, step-late, step-serves, step-undefined, step-defined}
+use Rattle.manual.specs.Lemmas.Programs.{exec-bind}
+use Rattle.manual.specs.Lemmas.StepLaws.{opcodeOf, step-short, step-whole, step-late, step-serves, step-undefined, step-defined}
 use Rattle.manual.specs.Theorems.Answers.{Served, Way, late, serves, undefined, ready, way, not-quiet}
 use Rattle.manual.specs.Theorems.RunAnswers.{same}
 use Rattle.registers.specs.InRange.{InRange}

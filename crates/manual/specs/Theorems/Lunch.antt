@@ -15,8 +15,8 @@ use Rattle.manual.specs.declared.Reason.the-variants.{Made, MemoryNotFul
 use Rattle.manual.specs.Micro.{Micro, done, exec, Gives}
 use Rattle.manual.specs.Outcomes.{isMade, ended}
 use Rattle.manual.specs.Stepping.{fullMemory, highestBound, stepFull, runWhile, runFull, run, longRun}
-use Rattle.manual.specs.Theorems.Programs.{exec-bind, exec-length}
-use Rattle.manual.specs.Theorems.StepLaws.{run-short, run-whole, long-short, long-whole}
+use Rattle.manual.specs.Lemmas.Programs.{exec-bind, exec-length}
+use Rattle.manual.specs.Lemmas.StepLaws.{run-short, run-whole, long-short, long-whole}
 use Rattle.manual.specs.Theorems.RunAnswers.{Ends, all-made, no-cycle-room, not-an-opcode, run-after, ends-run, run-ends, RunTable, ran, memory-not-full, bound-too-high, run-answers}
 
 -- what a run gives, with so many steps counted before it

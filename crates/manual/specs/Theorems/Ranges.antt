@@ -8,7 +8,7 @@ use native.Mathlib.Omega.{arith}
 use lib.Dec.{lit<, eqb, leb, ltb, lit≤}
 use Rattle.registers.specs.declared.Registers.{Registers}
 use Rattle.registers.specs.StatusByte.{pushedByte, servedByte}
-use Rattle.registers.specs.RoundTrip.{bit-most, pushed-byte}
+use Rattle.registers.specs.Theorems.RoundTrip.{bit-most, pushed-byte}
 use Rattle.instruction.specs.declared.Instruction.{Instruction}
 use Rattle.instruction.specs.declared.Instruction.the-variants.{Read, Store, Modify, Branch, Internal, BRK, JMP, JSR, PHA, PHP, PLA, PLP, RTI, RTS}
 use Rattle.instruction.specs.declared.ModifyOperation.{ModifyOperation}
@@ -19,7 +19,7 @@ use Rattle.instruction.specs.declared.Decoded.{Decoded}
 use Rattle.instruction.specs.declared.Decoded.the-variants.{Defined, Undefined}
 use Rattle.instruction.specs.Modes.{operandBytes}
 use Rattle.instruction.specs.Opcodes.{decoded}
-use Rattle.instruction.specs.Table.{mostExtra, Ruled, table-rules}
+use Rattle.instruction.specs.Theorems.Table.{mostExtra, Ruled, table-rules}
 use Rattle.manual.specs.declared.Lines.{Lines}
 use Rattle.manual.specs.declared.Machine.{Machine}
 use Rattle.manual.specs.declared.Due.{Due}
@@ -40,8 +40,8 @@ use Rattle.manual.specs.Outcomes.{isMade, ended}
 use Rattle.manual.specs.Stepping.{fullMemory, highestCount, highestBound, act, attend, stepFull, step, runWhile, onFull, bounded, runFull, run, longRun, spendFull, runCycles}
 use Rattle.manual.specs.Theorems.Within.{Within, Bytes, InMemory, within-exec, within-bind, within-weaken, within-memory}
 use Rattle.registers.specs.InRange.{InRange}
-use Rattle.manual.specs.Theorems.RegistersInRange.{in-setA, in-setS, in-setPC, in-setStatus, in-flags, in-advanced, in-loadA, in-applied, in-stored, in-modified, in-modified-flags, in-internal, in-around}
-use Rattle.manual.specs.Theorems.Programs.{either}
+use Rattle.manual.specs.Lemmas.RegistersInRange.{in-setA, in-setS, in-setPC, in-setStatus, in-flags, in-advanced, in-loadA, in-applied, in-stored, in-modified, in-modified-flags, in-internal, in-around}
+use Rattle.manual.specs.Lemmas.Programs.{either}
 use Rattle.manual.specs.Theorems.Answers.{not-quiet}
 
 abbrev Aimed : Target → Type 0

@@ -19,8 +19,9 @@ use Rattle.manual.specs.Outcomes.{isMade}
 use Rattle.manual.specs.Interrupts.{due}
 use Rattle.manual.specs.Stepping.{fullMemory, highestCount, highestBound, act, attend, stepFull, step, runWhile, onFull, bounded, runFull, run, longRun, spendFull, runCycles}
 use Rattle.manual.specs.ReadList.{listed, listedEntry, listedDue, listedStepFull, listedStep, listedRunWhile, listedOnFull, listedBounded, listedRun, listedLongRun, listedRunCycles}
-use Rattle.manual.specs.Theorems.Programs.{reads-bind, alike}
-use Rattle.manual.specs.Theorems.Accesses.{storedTo, orderOf, stores-first, threePushed, suits, entry-suits, act-accesses, attend-accesses, reads-in-order}
+use Rattle.manual.specs.Lemmas.Programs.{reads-bind, alike}
+use Rattle.manual.specs.Aims.{storedTo, threePushed}
+use Rattle.manual.specs.Theorems.Accesses.{orderOf, stores-first, suits, entry-suits, act-accesses, attend-accesses, reads-in-order}
 
 -- the program p reads l
 abbrev ReadsFrom : {A : Type 0} → List ℕ → Micro A → List ℕ → Type 0

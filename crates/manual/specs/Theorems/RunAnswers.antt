@@ -14,7 +14,7 @@ use Rattle.manual.specs.declared.Reason.the-variants.{Made, MemoryNotFul
 use Rattle.manual.specs.Micro.{exec, Gives}
 use Rattle.manual.specs.Outcomes.{refused, ended}
 use Rattle.manual.specs.Stepping.{fullMemory, highestBound, stepFull, runFull, run, longRun}
-use Rattle.manual.specs.Theorems.StepLaws.{step-late, step-serves, step-undefined, step-defined, run-short, run-long, run-whole, long-short, long-whole, run-end, run-more, run-stop}
+use Rattle.manual.specs.Lemmas.StepLaws.{step-late, step-serves, step-undefined, step-defined, run-short, run-long, run-whole, long-short, long-whole, run-end, run-more, run-stop}
 use Rattle.manual.specs.Theorems.Answers.{NoRoom, NoOpcode, Way, late, serves, undefined, ready, way}
 
 -- k steps of the definition, each of them made, lead from the machine s and the memory m to s′ and m′

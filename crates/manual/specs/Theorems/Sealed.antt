@@ -16,7 +16,7 @@ use Rattle.manual.specs.declared.Stepped.{Stepped}
 use Rattle.manual.specs.declared.Ended.{Ended}
 use Rattle.manual.specs.Stepping.{step, run, longRun}
 use Rattle.manual.specs.ReadList.{listedStep, listedRun, listedLongRun}
-use Rattle.manual.specs.Theorems.Programs.{_∈_, untouched}
+use Rattle.manual.specs.Lemmas.Programs.{_∈_, untouched}
 use Rattle.manual.specs.Theorems.Reads.{step-reads, run-reads, long-run-reads}
 
 -- two full memories that differ only at sealed addresses

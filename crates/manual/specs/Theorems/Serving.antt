@@ -11,7 +11,7 @@ use lib.ListN.{getD, set, length, length-set}
 use lib.Seq.{getD-set-same, getD-set-other}
 use Rattle.registers.specs.declared.Registers.{Registers}
 use Rattle.registers.specs.StatusByte.{servedByte}
-use Rattle.registers.specs.RoundTrip.{pulled-pushed}
+use Rattle.registers.specs.Theorems.RoundTrip.{pulled-pushed}
 use Rattle.registers.specs.State.{setS, setPC, setStatus, setI, flags, up, down}
 use Rattle.instruction.specs.declared.Instruction.the-variants.{RTI}
 use Rattle.instruction.specs.declared.AddressingMode.{AddressingMode}
@@ -31,8 +31,8 @@ use Rattle.manual.specs.Stack.{push, pull, pushAddress, pullAddress}
 use Rattle.manual.specs.Interrupts.{enter, served, idle, falls, calls, due}
 use Rattle.manual.specs.Instructions.{perform}
 use Rattle.manual.specs.Stepping.{highestCount, act, attend, stepFull}
-use Rattle.manual.specs.Theorems.Programs.{exec-bind}
-use Rattle.manual.specs.Theorems.StepLaws.{second-not, due-none, step-late, step-serves, step-undefined, step-defined}
+use Rattle.manual.specs.Lemmas.Programs.{exec-bind}
+use Rattle.manual.specs.Lemmas.StepLaws.{second-not, due-none, step-late, step-serves, step-undefined, step-defined}
 use Rattle.manual.specs.Theorems.Answers.{Served, Way, late, serves, undefined, ready, way}
 use Rattle.manual.specs.Theorems.RunAnswers.{Leads}
 use Rattle.manual.specs.Theorems.Reads.{step-full-reads}

@@ -10,7 +10,7 @@ use native.Mathlib.Decide.{decLt, ℕ-discrete}
 use borrow.Author.Tests.{le-leb, lt-leb, lt-ltb, le-ltb, eq-eqb, ne-eqb}
 use lib.Dec.{ltb}
 use lib.ListN.{length}
-use Rattle.instruction.specs.Table.{table-rules}
+use Rattle.instruction.specs.Theorems.Table.{table-rules}
 use Rattle.manual.specs.declared.Lines.{Lines}
 use Rattle.manual.specs.declared.Machine.{Machine}
 use Rattle.manual.specs.declared.Stepped.{Stepped}
@@ -21,11 +21,11 @@ use Rattle.manual.specs.Micro.{exec, accesses, reads, stores, Gives}
 use Rattle.manual.specs.Outcomes.{isMade, refused, ended}
 use Rattle.manual.specs.Stepping.{fullMemory, highestBound, stepFull, runWhile, run, spendFull, runCycles}
 use Rattle.manual.specs.ReadList.{listedRunCycles}
-use Rattle.manual.specs.Theorems.Programs.{either}
-use Rattle.manual.specs.Theorems.StepLaws.{opcodeOf, step-late, step-serves, step-undefined, step-defined, run-short, while-over, while-more, while-stop}
+use Rattle.manual.specs.Lemmas.Programs.{either}
+use Rattle.manual.specs.Lemmas.StepLaws.{opcodeOf, step-late, step-serves, step-undefined, step-defined, run-short, while-over, while-more, while-stop}
 use Rattle.manual.specs.Theorems.Answers.{NoRoom, NoOpcode, Way, late, serves, undefined, ready, way}
 use Rattle.manual.specs.Theorems.RunAnswers.{Leads, Ends, all-made, no-cycle-room as stopped-late, not-an-opcode as stopped-undefined, Allowed, ran as run-ran, run-answers, same}
-use Rattle.manual.specs.Theorems.Extra.{extra-of}
+use Rattle.manual.specs.Lemmas.Extra.{extra-of}
 use Rattle.manual.specs.Theorems.Reads.{run-cycles-reads}
 use Rattle.manual.specs.Theorems.Sealed.{Differ, Unsealed, Kept, sealed}
 

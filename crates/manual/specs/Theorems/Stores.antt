@@ -1,8 +1,7 @@
--- The addresses that a step stores to, exactly and in order; at most three.
+-- Laws of Stored.antt.
 use Prim.Native.Nat.{ℕ, _≤_}
 use mathlib.Core.Path.{_≡_, refl, ap, _∙_}
-use mathlib.Core.Bool.{cond}
-use mathlib.Core.List.{List, []}
+use mathlib.Core.List.{List}
 use lib.Dec.{T, eqb, ltb, lit≤}
 use lib.ListN.{getD, length}
 use Rattle.registers.specs.declared.Registers.{Registers}
@@ -22,23 +21,11 @@ use Rattle.manual.specs.Micro.{Micro, accesses, storesOf, stores}
 use Rattle.manual.specs.Interrupts.{due}
 use Rattle.manual.specs.Stepping.{fullMemory, highestCount, act, attend, stepFull, step}
 use Rattle.manual.specs.ReadList.{listed, listedDue}
-use Rattle.manual.specs.Theorems.Programs.{alike, either}
-use Rattle.manual.specs.Theorems.Accesses.{threePushed, storedTo, orderOf, stores-first, suits, entry-suits, act-accesses, attend-accesses, stores-in-order}
+use Rattle.manual.specs.Lemmas.Programs.{alike, either}
+use Rattle.manual.specs.Aims.{threePushed, storedTo}
+use Rattle.manual.specs.Theorems.Accesses.{orderOf, stores-first, suits, entry-suits, act-accesses, attend-accesses, stores-in-order}
 use Rattle.manual.specs.Theorems.FewReads.{Few}
-
-abbrev pub storedByEntry : Decoded → Registers → List ℕ → List ℕ
-storedByEntry (Defined e) r m = storedTo (e .instruction) (e .mode) r m
-storedByEntry Undefined r m = []
-
--- a line that is served pushes three bytes
-abbrev pub storedByDue : Due → Registers → List ℕ → List ℕ
-storedByDue (Through vector) r m = threePushed r
-storedByDue Quiet r m = storedByEntry (decoded (getD m (r .counter) 0)) r m
-
--- a refused step stores nothing
-abbrev pub storedByStep : ℕ → Lines → Machine → List ℕ → List ℕ
-storedByStep size lines s m =
-    cond (eqb size fullMemory) (cond (ltb highestCount (s .cycles)) [] (storedByDue (due lines s) (s .registers) m)) []
+use Rattle.manual.specs.Stored.{storedByEntry, storedByDue, storedByStep}
 
 -- the program p stores to l
 abbrev StoresTo : {A : Type 0} → List ℕ → Micro A → List ℕ → Type 0

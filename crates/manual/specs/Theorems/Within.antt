@@ -6,7 +6,7 @@ use mathlib.Core.Logic.{_⊎_, inl, inr, ⊎-elim}
 use mathlib.Core.List.{List, [], _∷_}
 use lib.ListN.{getD, set}
 use Rattle.manual.specs.Micro.{Micro, done, read, write, exec, accesses, reads, stores, _>>=_}
-use Rattle.manual.specs.Theorems.Programs.{_∈_}
+use Rattle.manual.specs.Lemmas.Programs.{_∈_}
 
 abbrev pub Within : {A : Type 0} → (A → Type 0) → Micro A → Type 0
 Within Q (done a) = Q a

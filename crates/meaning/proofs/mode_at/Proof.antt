@@ -1,6 +1,6 @@
 -- Each arm gives what stands at its number in the list; past the last arm the list has ended.
-use Rattle.laws.specs.LastArm.{past}
-use Rattle.meaning.specs.Operations.{modeAt, modes}
+use Rattle.laws.specs.Lemmas.LastArm.{past}
+use Rattle.meaning.specs.Inner.Operations.{modeAt, modes}
 use Rattle.meaning.proofs.mode_at.Statement.{statement}
 use Rattle.meaning.proofs.mode_at.Tie as tie
 

@@ -1,8 +1,8 @@
 -- Each arm gives what stands at its number in the list; past the last arm are those that store.
 use mathlib.Core.Path.{_∙_}
 use borrow.Author.Needs.{needs}
-use Rattle.meaning.specs.Operations.{operationAt, operations}
-use Rattle.meaning.specs.Storing.{all-storing}
+use Rattle.meaning.specs.Inner.Operations.{operationAt, operations}
+use Rattle.meaning.specs.Lemmas.Storing.{all-storing}
 use Rattle.meaning.proofs.operation_at.Statement.{statement}
 use Rattle.meaning.proofs.operation_at.Tie as tie
 

@@ -1,6 +1,7 @@
 -- Each arm gives what stands at its number in the list; past the last arm nothing stores.
-use Rattle.meaning.specs.Operations.{operationAt, operations}
-use Rattle.meaning.specs.Storing.{storingAt, no-storing}
+use Rattle.meaning.specs.Inner.Operations.{operationAt, operations}
+use Rattle.meaning.specs.Inner.Storing.{storingAt}
+use Rattle.meaning.specs.Lemmas.Storing.{no-storing}
 use Rattle.meaning.proofs.storing_at.Statement.{statement}
 use Rattle.meaning.proofs.storing_at.Tie as tie
 

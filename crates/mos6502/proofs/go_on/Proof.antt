@@ -8,7 +8,7 @@ use denote.Ref.{now}
 use lib.ListN.{length}
 use Rattle.manual.specs.Stepping.{fullMemory}
 use Rattle.mos6502.specs.Numbers.{RunNumbers}
-use Rattle.mos6502.specs.Rounds.{Round, at-first, at-last, Turns, round-turns}
+use Rattle.mos6502.specs.Lemmas.Rounds.{Round, at-first, at-last, Turns, round-turns}
 use Rattle.mos6502.proofs.go_on.Statement.{statement}
 use Rattle.mos6502.proofs.go_on.Tie as tie
 

@@ -1,6 +1,6 @@
 -- The length is tested before any step.
 use borrow.Author.Needs.{needs}
-use Rattle.mos6502.specs.Laws.{long-run-short-memory, long-run-on-full}
+use Rattle.mos6502.specs.Lemmas.Numbers.{long-run-short-memory, long-run-on-full}
 use Rattle.mos6502.proofs.mos6502_long_run.Statement.{statement}
 use Rattle.mos6502.proofs.mos6502_long_run.Tie as tie
 

@@ -1,6 +1,6 @@
 -- The length and the bound are tested, in that order, before any step.
 use borrow.Author.Needs.{needs}
-use Rattle.mos6502.specs.Laws.{run-short-memory, run-long-bound, run-on-full}
+use Rattle.mos6502.specs.Lemmas.Numbers.{run-short-memory, run-long-bound, run-on-full}
 use Rattle.mos6502.proofs.mos6502_run.Statement.{statement}
 use Rattle.mos6502.proofs.mos6502_run.Tie as tie
 

@@ -9,8 +9,8 @@ use denote.Ref.{now}
 use lib.ListN.{length}
 use Rattle.manual.specs.Stepping.{fullMemory, highestBound}
 use Rattle.mos6502.specs.Numbers.{RunNumbers}
-use Rattle.mos6502.specs.Laws.{cycles-short-memory, cycles-long-limit}
-use Rattle.mos6502.specs.Limits.{Spending, none-spent, all-spent, Spends, ran-spends}
+use Rattle.mos6502.specs.Lemmas.Numbers.{cycles-short-memory, cycles-long-limit}
+use Rattle.mos6502.specs.Lemmas.Limits.{Spending, none-spent, all-spent, Spends, ran-spends}
 use Rattle.mos6502.proofs.mos6502_run_cycles.Statement.{statement}
 use Rattle.mos6502.proofs.mos6502_run_cycles.Tie as tie
 

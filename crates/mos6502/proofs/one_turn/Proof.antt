@@ -6,9 +6,10 @@ use mathlib.Core.Path.{_≡_, refl, ap, sym, _∙_, subst}
 use borrow.Author.Needs.{needs}
 use denote.Ref.{now}
 use Rattle.manual.specs.declared.Lines.{Lines}
-use Rattle.cpu.specs.Turning.{Fits, reach, fitting, going, one-fits, fitting-fits}
+use Rattle.cpu.specs.Inner.Turning.{Fits, reach, fitting, going}
+use Rattle.cpu.specs.Lemmas.Turning.{one-fits, fitting-fits}
 use Rattle.numbers.specs.Machines.{linesFrom}
-use Rattle.mos6502.specs.Numbers.{Turned}
+use Rattle.mos6502.specs.Inner.Turns.{Turned}
 use Rattle.mos6502.proofs.one_turn.Statement.{statement}
 use Rattle.mos6502.proofs.one_turn.Tie as tie
 

@@ -1,7 +1,7 @@
 -- One law for each way out. The verdict and the length of the text are what the first writing answers.
 use native.Mathlib.Omega.{arith}
 use denote.Ref.{now}
-use Rattle.moving.specs.Outcomes.{move-bad, move-no-room, move-written, moved-fits}
+use Rattle.moving.specs.Lemmas.Outcomes.{move-bad, move-no-room, move-written, moved-fits}
 use borrow.Author.Needs.{needs}
 use Rattle.moving.proofs.deliver.Statement.{statement}
 use Rattle.moving.proofs.deliver.Tie as tie

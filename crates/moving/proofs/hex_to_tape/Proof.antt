@@ -1,7 +1,7 @@
 -- One way of the two.
 use Rattle.intelhex.specs.IntelHex.{hexOf}
 use Rattle.moving.specs.Moving.{hexToTape}
-use Rattle.moving.specs.Lines.{moved}
+use Rattle.moving.specs.Inner.Lines.{moved}
 use borrow.Author.Needs.{needs}
 use Rattle.moving.proofs.hex_to_tape.Statement.{statement}
 use Rattle.moving.proofs.hex_to_tape.Tie as tie

@@ -1,7 +1,7 @@
 -- The sum and the data are read from the text.
 use native.Mathlib.Omega.{arith}
 use denote.Ref.{now}
-use Rattle.moving.specs.Lines.{line-here}
+use Rattle.moving.specs.Lemmas.Lines.{line-here}
 use borrow.Author.Needs.{needs}
 use Rattle.moving.proofs.move_record.Statement.{statement}
 use Rattle.moving.proofs.move_record.Tie as tie

@@ -5,9 +5,9 @@ use native.Mathlib.Omega.{arith}
 use denote.Ref.{now}
 use lib.ListN.{length, drop}
 use Rattle.records.specs.Contents.{contents}
-use Rattle.loading.specs.Formats.{itemOf, contentsOf}
-use Rattle.loading.specs.Going.{stops, comes}
-use Rattle.moving.specs.Passing.{Underway, at-stop, line-moved, few-moved, bad-passed, good-passed}
+use Rattle.loading.specs.Inner.Formats.{itemOf, contentsOf}
+use Rattle.loading.specs.Lemmas.Going.{stops, comes}
+use Rattle.moving.specs.Lemmas.Passing.{Underway, at-stop, line-moved, few-moved, bad-passed, good-passed}
 use borrow.Author.Needs.{needs}
 use Rattle.moving.proofs.put_records.Statement.{statement}
 use Rattle.moving.proofs.put_records.Tie as tie

@@ -1,7 +1,7 @@
 -- One way of the two.
 use Rattle.tapes.specs.Tapes.{tapeOf}
 use Rattle.moving.specs.Moving.{tapeToHex}
-use Rattle.moving.specs.Lines.{moved}
+use Rattle.moving.specs.Inner.Lines.{moved}
 use borrow.Author.Needs.{needs}
 use Rattle.moving.proofs.tape_to_hex.Statement.{statement}
 use Rattle.moving.proofs.tape_to_hex.Tie as tie

@@ -1,7 +1,7 @@
 -- Each arm has its mode's notation, by computation.
 use native.Mathlib.Omega.{arith}
 use Rattle.notation.specs.Operands.{written}
-use Rattle.notation.specs.Patterns.{patternOf}
+use Rattle.notation.specs.Inner.Patterns.{patternOf}
 use Rattle.notation.proofs.pattern.Statement.{statement}
 use Rattle.notation.proofs.pattern.Tie as tie
 

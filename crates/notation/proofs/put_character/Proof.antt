@@ -1,7 +1,7 @@
 -- By what the character stands for.
 use native.Mathlib.Omega.{arith}
 use borrow.Author.Tests.{eq-eqb, ne-eqb}
-use Rattle.text.specs.Laws.{nothing}
+use Rattle.text.specs.Lemmas.Texts.{nothing}
 use Rattle.notation.proofs.put_character.Statement.{statement}
 use Rattle.notation.proofs.put_character.Tie as tie
 

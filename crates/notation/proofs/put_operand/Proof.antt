@@ -1,7 +1,7 @@
 -- The pattern of the mode, with the numbers that stand after the opcode.
 use native.Mathlib.Omega.{arith}
 use denote.Ref.{now}
-use Rattle.notation.specs.Patterns.{operand-filled}
+use Rattle.notation.specs.Lemmas.Patterns.{operand-filled}
 use Rattle.notation.proofs.put_operand.Statement.{statement}
 use Rattle.notation.proofs.put_operand.Tie as tie
 

@@ -5,8 +5,9 @@ use native.Mathlib.Omega.{arith}
 use denote.Ref.{now}
 use lib.ListN.{length, take}
 use Rattle.text.specs.Written.{Wrote}
-use Rattle.text.specs.Laws.{nothing, then}
-use Rattle.notation.specs.Patterns.{filled, filled-more, filled-all}
+use Rattle.text.specs.Lemmas.Texts.{nothing, then}
+use Rattle.notation.specs.Inner.Patterns.{filled}
+use Rattle.notation.specs.Lemmas.Patterns.{filled-more, filled-all}
 use Rattle.notation.proofs.put_pattern.Statement.{statement}
 use Rattle.notation.proofs.put_pattern.Tie as tie
 

@@ -4,7 +4,7 @@ use native.Mathlib.Omega.{arith}
 use borrow.Author.Needs.{needs}
 use Rattle.registers.specs.InRange.{InRange}
 use Rattle.numbers.specs.Packed.{packed}
-use Rattle.numbers.specs.RoundTrip.{unpacked-packed, level-packed}
+use Rattle.numbers.specs.Lemmas.RoundTrip.{unpacked-packed, level-packed}
 use Rattle.numbers.proofs.pack.Statement.{statement}
 use Rattle.numbers.proofs.pack.Tie as tie
 

@@ -8,7 +8,7 @@ use Rattle.instruction.specs.declared.AddressingMode.the-variants.{Accumulator,
 use Rattle.manual.specs.Micro.{exec, Gives}
 use Rattle.manual.specs.Addressing.{target}
 use Rattle.manual.specs.Branching.{branched}
-use Rattle.manual.specs.Theorems.InstructionLaws.{branch-gives}
+use Rattle.manual.specs.Lemmas.InstructionLaws.{branch-gives}
 use borrow.Author.Needs.{needs}
 use Rattle.operations.proofs.branch.Statement.{statement}
 use Rattle.operations.proofs.branch.Tie as tie

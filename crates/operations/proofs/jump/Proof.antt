@@ -1,6 +1,6 @@
 -- The counter goes where the mode leads.
 use mathlib.Core.Path.{_∙_}
-use Rattle.manual.specs.Theorems.InstructionLaws.{jump-gives}
+use Rattle.manual.specs.Lemmas.InstructionLaws.{jump-gives}
 use borrow.Author.Needs.{needs}
 use Rattle.operations.proofs.jump.Statement.{statement}
 use Rattle.operations.proofs.jump.Tie as tie

@@ -1,7 +1,7 @@
 -- The byte where the mode leads is read, changed and stored.
 use mathlib.Core.Path.{_∙_}
 use Rattle.manual.specs.Instructions.{perform}
-use Rattle.manual.specs.Theorems.InstructionLaws.{modify-memory-gives}
+use Rattle.manual.specs.Lemmas.InstructionLaws.{modify-memory-gives}
 use borrow.Author.Needs.{needs}
 use Rattle.operations.proofs.modify.Statement.{statement}
 use Rattle.operations.proofs.modify.Tie as tie

@@ -1,6 +1,6 @@
 -- The accumulator takes the changed byte, and the flags show it.
 use mathlib.Core.Path.{_∙_}
-use Rattle.manual.specs.Theorems.InstructionLaws.{modify-accumulator-done}
+use Rattle.manual.specs.Lemmas.InstructionLaws.{modify-accumulator-done}
 use borrow.Author.Needs.{needs}
 use Rattle.operations.proofs.modify_accumulator.Statement.{statement}
 use Rattle.operations.proofs.modify_accumulator.Tie as tie

@@ -1,6 +1,6 @@
 -- The target's byte is taken, and a page cross is charged.
 use mathlib.Core.Path.{_∙_}
-use Rattle.manual.specs.Theorems.InstructionLaws.{read-gives}
+use Rattle.manual.specs.Lemmas.InstructionLaws.{read-gives}
 use borrow.Author.Needs.{needs}
 use Rattle.operations.proofs.read.Statement.{statement}
 use Rattle.operations.proofs.read.Tie as tie

@@ -1,6 +1,6 @@
 -- The register is stored where the mode leads.
 use mathlib.Core.Path.{_∙_}
-use Rattle.manual.specs.Theorems.InstructionLaws.{store-gives}
+use Rattle.manual.specs.Lemmas.InstructionLaws.{store-gives}
 use borrow.Author.Needs.{needs}
 use Rattle.operations.proofs.store.Statement.{statement}
 use Rattle.operations.proofs.store.Tie as tie

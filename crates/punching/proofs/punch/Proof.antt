@@ -1,9 +1,9 @@
 -- One law for each way out. The length of the text is what its first writing answers.
 use native.Mathlib.Omega.{arith}
 use denote.Ref.{now}
-use Rattle.text.specs.Delivered.{all-written, no-room}
+use Rattle.text.specs.Lemmas.Delivered.{all-written, no-room}
 use Rattle.punching.specs.Punching.{tapeFrom}
-use Rattle.punching.specs.Outcomes.{to-the-last, text-length, not-full, backwards, in-order}
+use Rattle.punching.specs.Lemmas.Outcomes.{to-the-last, text-length, not-full, backwards, in-order}
 use borrow.Author.Needs.{needs}
 use Rattle.punching.proofs.punch.Statement.{statement}
 use Rattle.punching.proofs.punch.Tie as tie

@@ -8,9 +8,9 @@ use lib.Seq.{slice}
 use borrow.Author.Needs.{needs}
 use Rattle.text.specs.Written.{most}
 use Rattle.text.specs.Numerals.{hex2}
-use Rattle.text.specs.Left.{Left, less-left, none-left}
+use Rattle.text.specs.Lemmas.Left.{Left, less-left, none-left}
 use Rattle.records.specs.Records.{hexes}
-use Rattle.punching.specs.Laws.{slice-more, slice-none}
+use Rattle.punching.specs.Lemmas.Punching.{slice-more, slice-none}
 use Rattle.punching.proofs.put_bytes.Statement.{statement}
 use Rattle.punching.proofs.put_bytes.Tie as tie
 

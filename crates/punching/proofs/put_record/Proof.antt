@@ -4,8 +4,8 @@ use native.Mathlib.Omega.{arith}
 use denote.Ref.{now}
 use lib.Seq.{slice, length-slice}
 use borrow.Author.Needs.{needs}
-use Rattle.text.specs.Laws.{then}
-use Rattle.tapes.specs.Writing.{record-written, head-sum}
+use Rattle.text.specs.Lemmas.Texts.{then}
+use Rattle.tapes.specs.Lemmas.Writing.{record-written, head-sum}
 use Rattle.punching.proofs.put_record.Statement.{statement}
 use Rattle.punching.proofs.put_record.Tie as tie
 

@@ -7,11 +7,11 @@ use denote.Ref.{now}
 use lib.ListN.{length}
 use lib.Seq.{slice}
 use borrow.Author.Needs.{needs}
-use Rattle.text.specs.Left.{Left, less-left}
+use Rattle.text.specs.Lemmas.Left.{Left, less-left}
 use Rattle.records.specs.Grammar.{newline}
 use Rattle.tapes.specs.Grammar.{recordText, tapeText}
 use Rattle.punching.specs.Punching.{cut}
-use Rattle.punching.specs.Laws.{tape-more, tape-none}
+use Rattle.punching.specs.Lemmas.Punching.{tape-more, tape-none}
 use Rattle.punching.proofs.put_tape.Statement.{statement}
 use Rattle.punching.proofs.put_tape.Tie as tie
 

@@ -6,7 +6,7 @@ use denote.Ref.{now}
 use lib.Seq.{slice}
 use borrow.Author.Needs.{needs}
 use Rattle.records.specs.Records.{total}
-use Rattle.punching.specs.Laws.{sum-more, sum-none}
+use Rattle.punching.specs.Lemmas.Punching.{sum-more, sum-none}
 use Rattle.punching.proofs.sum_bytes.Statement.{statement}
 use Rattle.punching.proofs.sum_bytes.Tie as tie
 

@@ -2,7 +2,7 @@
 use native.Mathlib.Omega.{arith}
 use borrow.Author.Needs.{needs}
 use borrow.Author.Tests.{lt-ltb, le-ltb, le-leb, lt-leb}
-use Rattle.reading.specs.Numbers.{by-range}
+use Rattle.reading.specs.Lemmas.Numbers.{by-range}
 use Rattle.reading.proofs.digit_value.Statement.{statement}
 use Rattle.reading.proofs.digit_value.Tie as tie
 

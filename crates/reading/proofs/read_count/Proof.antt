@@ -2,7 +2,7 @@
 use mathlib.Core.Path.{_≡_, sym, _∙_}
 use native.Mathlib.Omega.{arith}
 use Rattle.reading.specs.Numbers.{countAt, countFrom}
-use Rattle.reading.specs.Counting.{count-full, count-end, count-over, count-more}
+use Rattle.reading.specs.Lemmas.Counting.{count-full, count-end, count-over, count-more}
 use Rattle.reading.proofs.read_count.Statement.{statement}
 use Rattle.reading.proofs.read_count.Tie as tie
 

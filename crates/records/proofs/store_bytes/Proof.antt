@@ -8,9 +8,9 @@ use lib.ListN.{length}
 use Rattle.reading.specs.Numbers.{byteAt}
 use borrow.Author.Needs.{needs}
 use Rattle.text.specs.Written.{most}
-use Rattle.text.specs.Left.{Left, less-left, none-left}
-use Rattle.records.specs.Reading.{valuesAt}
-use Rattle.records.specs.Loops.{values-more, values-none}
+use Rattle.text.specs.Lemmas.Left.{Left, less-left, none-left}
+use Rattle.records.specs.Inner.Reading.{valuesAt}
+use Rattle.records.specs.Lemmas.Loops.{values-more, values-none}
 use Rattle.records.proofs.store_bytes.Statement.{statement}
 use Rattle.records.proofs.store_bytes.Tie as tie
 

@@ -3,7 +3,7 @@ use Prim.Native.Nat.{_≤_}
 use mathlib.Core.Path.{sym, _∙_}
 use native.Mathlib.Omega.{arith}
 use lib.Seq.{length-take-le}
-use Rattle.text.specs.Laws.{decimal-length}
+use Rattle.text.specs.Lemmas.Texts.{decimal-length}
 use borrow.Author.Needs.{needs}
 use Rattle.replay.proofs.conclude.Statement.{statement}
 use Rattle.replay.proofs.conclude.Tie as tie

@@ -5,9 +5,10 @@ use mathlib.Core.Path.{_≡_, refl, sym, _∙_}
 use native.Mathlib.Omega.{arith}
 use denote.Ref.{now}
 use lib.ListN.{length}
-use Rattle.console.specs.Failing.{FailureStays, stays-on}
+use Rattle.console.specs.Failing.{FailureStays}
+use Rattle.console.specs.Theorems.Failing.{stays-on}
 use Rattle.replay.specs.Verdicts.{tallyOf, tallyFrom}
-use Rattle.replay.specs.Laws.{tally-start, tally-end, tally-more}
+use Rattle.replay.specs.Lemmas.Replay.{tally-start, tally-end, tally-more}
 use borrow.Author.Needs.{needs}
 use Rattle.replay.proofs.replay.Statement.{statement}
 use Rattle.replay.proofs.replay.Tie as tie

@@ -1,6 +1,6 @@
 -- By the length of the list.
 use borrow.Author.Tests.{eq-eqb, ne-eqb}
-use Rattle.console.specs.Failing.{stays-on}
+use Rattle.console.specs.Theorems.Failing.{stays-on}
 use borrow.Author.Needs.{needs}
 use Rattle.replay.proofs.replay_list.Statement.{statement}
 use Rattle.replay.proofs.replay_list.Tie as tie

@@ -6,7 +6,7 @@ use native.Mathlib.Omega.{arith}
 use lib.Seq.{length-take-le}
 use denote.Enum.Declared
 use types.Run
-use Rattle.text.specs.Laws.{decimal-length}
+use Rattle.text.specs.Lemmas.Texts.{decimal-length}
 use Rattle.replay.proofs.compare.Verdict as verdict
 use Rattle.replay.specs.declared.compare.Verdict.{Verdict}
 use Rattle.replay.specs.Verdicts.{faults}

@@ -1,5 +1,5 @@
 -- One part after the other.
-use Rattle.text.specs.Laws.{then}
+use Rattle.text.specs.Lemmas.Texts.{then}
 use borrow.Author.Needs.{needs}
 use Rattle.report.proofs.put_after.Statement.{statement}
 use Rattle.report.proofs.put_after.Tie as tie

@@ -1,6 +1,6 @@
 -- What is run is what was read.
 use mathlib.Core.Path.{_∙_}
-use Rattle.console.specs.Failing.{stays-on}
+use Rattle.console.specs.Theorems.Failing.{stays-on}
 use borrow.Author.Needs.{needs}
 use Rattle.report.proofs.report_argument.Statement.{statement}
 use Rattle.report.proofs.report_argument.Tie as tie

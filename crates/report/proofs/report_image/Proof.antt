@@ -6,8 +6,8 @@ use lib.ListN.{length}
 use borrow.Author.Tests.{ne-eqb}
 use Rattle.manual.specs.Micro.{exec}
 use Rattle.reporting.specs.Report.{imageRun}
-use Rattle.console.specs.Failing.{stays-on}
-use Rattle.report.specs.Named.{line-ends}
+use Rattle.console.specs.Theorems.Failing.{stays-on}
+use Rattle.report.specs.Lemmas.Named.{line-ends}
 use borrow.Author.Needs.{needs}
 use Rattle.report.proofs.report_image.Statement.{statement}
 use Rattle.report.proofs.report_image.Tie as tie

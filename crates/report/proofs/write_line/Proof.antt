@@ -2,7 +2,7 @@
 use mathlib.Core.Path.{sym}
 use native.Mathlib.Omega.{arith}
 use lib.Seq.{length-take-le}
-use Rattle.report.specs.Named.{after-within}
+use Rattle.report.specs.Lemmas.Named.{after-within}
 use borrow.Author.Needs.{needs}
 use Rattle.report.proofs.write_line.Statement.{statement}
 use Rattle.report.proofs.write_line.Tie as tie

@@ -4,7 +4,7 @@ use denote.Ref.{now}
 use lib.Seq.{length-take-le}
 use native.Mathlib.Omega.{arith}
 use borrow.Author.Needs.{needs}
-use Rattle.text.specs.Laws.{then}
+use Rattle.text.specs.Lemmas.Texts.{then}
 use Rattle.rescuing.proofs.put_kept.Statement.{statement}
 use Rattle.rescuing.proofs.put_kept.Tie as tie
 

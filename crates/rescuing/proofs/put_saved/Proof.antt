@@ -6,8 +6,8 @@ use denote.Ref.{now}
 use lib.ListN.{length, drop}
 use borrow.Author.Needs.{needs}
 use Rattle.rescuing.specs.Rescuing.{saved}
-use Rattle.rescuing.specs.Laws.{saved-end, saved-other, saved-mark}
-use Rattle.rescuing.specs.Passing.{Underway, on, one-kept, one-dropped, all-kept, all-dropped, its-first, is-bad, is-end, is-data}
+use Rattle.rescuing.specs.Lemmas.Worth.{saved-end, saved-other, saved-mark}
+use Rattle.rescuing.specs.Lemmas.Passing.{Underway, on, one-kept, one-dropped, all-kept, all-dropped, its-first, is-bad, is-end, is-data}
 use Rattle.rescuing.proofs.put_saved.Statement.{statement}
 use Rattle.rescuing.proofs.put_saved.Tie as tie
 

@@ -1,7 +1,7 @@
 -- A record that is not found is malformed; one that is found is judged by its numbers, its own address for its number.
 use mathlib.Core.Path.{sym, _∙_}
 use borrow.Author.Needs.{needs}
-use Rattle.rescuing.specs.Passing.{worth-malformed, worth-by-parts}
+use Rattle.rescuing.specs.Lemmas.Passing.{worth-malformed, worth-by-parts}
 use Rattle.rescuing.proofs.read_worth.Statement.{statement}
 use Rattle.rescuing.proofs.read_worth.Tie as tie
 

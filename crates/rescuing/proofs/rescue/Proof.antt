@@ -1,7 +1,7 @@
 -- One law for each way out. What is kept and how long the text is, is what the first writing answers.
 use native.Mathlib.Omega.{arith}
 use borrow.Author.Needs.{needs}
-use Rattle.rescuing.specs.Outcomes.{too-many, no-room, all-written, rescued-fits}
+use Rattle.rescuing.specs.Lemmas.Outcomes.{too-many, no-room, all-written, rescued-fits}
 use Rattle.rescuing.proofs.rescue.Statement.{statement}
 use Rattle.rescuing.proofs.rescue.Tie as tie
 

@@ -2,7 +2,7 @@
 use mathlib.Core.Path.{sym}
 use native.Mathlib.Omega.{arith}
 use lib.Seq.{length-take-le}
-use Rattle.console.specs.Failing.{stays-on}
+use Rattle.console.specs.Theorems.Failing.{stays-on}
 use borrow.Author.Needs.{needs}
 use Rattle.sealed.proofs.swear.Statement.{statement}
 use Rattle.sealed.proofs.swear.Tie as tie

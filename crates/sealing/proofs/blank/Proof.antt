@@ -5,7 +5,7 @@ use native.Mathlib.Omega.{arith}
 use denote.Ref.{now}
 use lib.ListN.{length, length-set}
 use Rattle.manual.specs.Stepping.{fullMemory}
-use Rattle.sealing.specs.Laws.{Blanks, none-yet, one-more, all-blanked}
+use Rattle.sealing.specs.Lemmas.Blanking.{Blanks, none-yet, one-more, all-blanked}
 use Rattle.sealing.proofs.blank.Statement.{statement}
 use Rattle.sealing.proofs.blank.Tie as tie
 

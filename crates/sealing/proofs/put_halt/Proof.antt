@@ -1,7 +1,7 @@
 -- One field after the other; none is longer than its number can be.
 use native.Mathlib.Omega.{arith}
-use Rattle.text.specs.Laws.{then}
-use Rattle.sealing.specs.Laws.{halt-fits}
+use Rattle.text.specs.Lemmas.Texts.{then}
+use Rattle.sealing.specs.Lemmas.Blanking.{halt-fits}
 use borrow.Author.Needs.{needs}
 use Rattle.sealing.proofs.put_halt.Statement.{statement}
 use Rattle.sealing.proofs.put_halt.Tie as tie

@@ -1,6 +1,6 @@
 -- After the last count of 64 bits the last digit stands by itself; after any other the number is one of 64 bits.
-use Rattle.text.specs.Laws.{then}
-use Rattle.sealing.specs.Laws.{after-last}
+use Rattle.text.specs.Lemmas.Texts.{then}
+use Rattle.sealing.specs.Lemmas.Blanking.{after-last}
 use borrow.Author.Needs.{needs}
 use Rattle.sealing.proofs.put_next.Statement.{statement}
 use Rattle.sealing.proofs.put_next.Tie as tie

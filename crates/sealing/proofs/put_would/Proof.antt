@@ -1,7 +1,7 @@
 -- One part after the other; a count of 64 bits has twenty digits.
 use native.Mathlib.Omega.{arith}
-use Rattle.text.specs.Laws.{then, within}
-use Rattle.sealing.specs.Laws.{would-fits}
+use Rattle.text.specs.Lemmas.Texts.{then, within}
+use Rattle.sealing.specs.Lemmas.Blanking.{would-fits}
 use borrow.Author.Needs.{needs}
 use Rattle.sealing.proofs.put_would.Statement.{statement}
 use Rattle.sealing.proofs.put_would.Tie as tie

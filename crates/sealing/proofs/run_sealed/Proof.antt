@@ -3,7 +3,7 @@ use mathlib.Core.Path.{sym}
 use native.Mathlib.Omega.{arith}
 use denote.Ref.{now}
 use borrow.Author.Needs.{needs}
-use Rattle.sealing.specs.Laws.{extract-refused, extract-by}
+use Rattle.sealing.specs.Lemmas.Blanking.{extract-refused, extract-by}
 use Rattle.sealing.proofs.run_sealed.Statement.{statement}
 use Rattle.sealing.proofs.run_sealed.Tie as tie
 

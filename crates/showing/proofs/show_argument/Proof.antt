@@ -1,6 +1,6 @@
 -- What is run is what was read.
 use borrow.Author.Tests.{ne-eqb}
-use Rattle.console.specs.Failing.{stays-on}
+use Rattle.console.specs.Theorems.Failing.{stays-on}
 use borrow.Author.Needs.{needs}
 use Rattle.showing.proofs.show_argument.Statement.{statement}
 use Rattle.showing.proofs.show_argument.Tie as tie

@@ -1,7 +1,7 @@
 -- The failure, or the status of the whole run.
 use mathlib.Core.Path.{_∙_}
 use borrow.Author.Tests.{ne-eqb}
-use Rattle.console.specs.Failing.{stays-on}
+use Rattle.console.specs.Theorems.Failing.{stays-on}
 use borrow.Author.Needs.{needs}
 use Rattle.showing.proofs.show_image.Statement.{statement}
 use Rattle.showing.proofs.show_image.Tie as tie

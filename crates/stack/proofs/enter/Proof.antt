@@ -2,7 +2,7 @@
 use mathlib.Core.Path.{_∙_}
 use native.Mathlib.Omega.{arith}
 use Rattle.registers.specs.State.{flags}
-use Rattle.manual.specs.Theorems.InstructionLaws.{enter-gives}
+use Rattle.manual.specs.Lemmas.InstructionLaws.{enter-gives}
 use borrow.Author.Needs.{needs}
 use Rattle.stack.proofs.enter.Statement.{statement}
 use Rattle.stack.proofs.enter.Tie as tie

@@ -1,6 +1,6 @@
 -- The way in, from the address past the second byte and with the status as PHP pushes it.
 use mathlib.Core.Path.{_∙_}
-use Rattle.manual.specs.Theorems.InstructionLaws.{break-gives}
+use Rattle.manual.specs.Lemmas.InstructionLaws.{break-gives}
 use borrow.Author.Needs.{needs}
 use Rattle.stack.proofs.force_break.Statement.{statement}
 use Rattle.stack.proofs.force_break.Tie as tie

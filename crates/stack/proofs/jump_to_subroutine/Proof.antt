@@ -1,7 +1,7 @@
 -- The low byte is read, the return address pushed, and then the high byte read.
 use mathlib.Core.Path.{_∙_}
 use borrow.Author.Needs.{needs}
-use Rattle.manual.specs.Theorems.InstructionLaws.{call-gives}
+use Rattle.manual.specs.Lemmas.InstructionLaws.{call-gives}
 use Rattle.stack.proofs.jump_to_subroutine.Statement.{statement}
 use Rattle.stack.proofs.jump_to_subroutine.Tie as tie
 

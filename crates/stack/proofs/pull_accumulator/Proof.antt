@@ -1,6 +1,6 @@
 -- The pulled byte is loaded.
 use mathlib.Core.Path.{_∙_}
-use Rattle.manual.specs.Theorems.InstructionLaws.{pull-accumulator-gives}
+use Rattle.manual.specs.Lemmas.InstructionLaws.{pull-accumulator-gives}
 use borrow.Author.Needs.{needs}
 use Rattle.stack.proofs.pull_accumulator.Statement.{statement}
 use Rattle.stack.proofs.pull_accumulator.Tie as tie

@@ -1,6 +1,6 @@
 -- The pulled byte becomes the status.
 use mathlib.Core.Path.{_∙_}
-use Rattle.manual.specs.Theorems.InstructionLaws.{pull-status-gives}
+use Rattle.manual.specs.Lemmas.InstructionLaws.{pull-status-gives}
 use borrow.Author.Needs.{needs}
 use Rattle.stack.proofs.pull_status.Statement.{statement}
 use Rattle.stack.proofs.pull_status.Tie as tie

@@ -1,6 +1,6 @@
 -- The accumulator is pushed.
 use mathlib.Core.Path.{_∙_}
-use Rattle.manual.specs.Theorems.InstructionLaws.{push-accumulator-gives}
+use Rattle.manual.specs.Lemmas.InstructionLaws.{push-accumulator-gives}
 use borrow.Author.Needs.{needs}
 use Rattle.stack.proofs.push_accumulator.Statement.{statement}
 use Rattle.stack.proofs.push_accumulator.Tie as tie

@@ -1,6 +1,6 @@
 -- The status is pushed as a byte.
 use mathlib.Core.Path.{_∙_}
-use Rattle.manual.specs.Theorems.InstructionLaws.{push-status-gives}
+use Rattle.manual.specs.Lemmas.InstructionLaws.{push-status-gives}
 use borrow.Author.Needs.{needs}
 use Rattle.stack.proofs.push_status.Statement.{statement}
 use Rattle.stack.proofs.push_status.Tie as tie

@@ -1,6 +1,6 @@
 -- The status comes off first, then the counter.
 use mathlib.Core.Path.{_∙_}
-use Rattle.manual.specs.Theorems.InstructionLaws.{return-from-interrupt-gives}
+use Rattle.manual.specs.Lemmas.InstructionLaws.{return-from-interrupt-gives}
 use borrow.Author.Needs.{needs}
 use Rattle.stack.proofs.return_from_interrupt.Statement.{statement}
 use Rattle.stack.proofs.return_from_interrupt.Tie as tie

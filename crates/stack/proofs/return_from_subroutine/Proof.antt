@@ -1,6 +1,6 @@
 -- The counter goes one past what was pulled.
 use mathlib.Core.Path.{_∙_}
-use Rattle.manual.specs.Theorems.InstructionLaws.{return-gives}
+use Rattle.manual.specs.Lemmas.InstructionLaws.{return-gives}
 use borrow.Author.Needs.{needs}
 use Rattle.stack.proofs.return_from_subroutine.Statement.{statement}
 use Rattle.stack.proofs.return_from_subroutine.Tie as tie

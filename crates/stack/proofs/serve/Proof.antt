@@ -1,5 +1,5 @@
 -- The way in, from the counter itself and with the byte that a line pushes.
-use Rattle.manual.specs.Theorems.InstructionLaws.{served-gives}
+use Rattle.manual.specs.Lemmas.InstructionLaws.{served-gives}
 use borrow.Author.Needs.{needs}
 use Rattle.stack.proofs.serve.Statement.{statement}
 use Rattle.stack.proofs.serve.Tie as tie

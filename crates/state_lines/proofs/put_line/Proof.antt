@@ -1,7 +1,7 @@
 -- The fields, and LF.
 use native.Mathlib.Omega.{arith}
-use Rattle.text.specs.Laws.{then}
-use Rattle.state_lines.specs.Theorems.{line-short}
+use Rattle.text.specs.Lemmas.Texts.{then}
+use Rattle.state_lines.specs.Theorems.Lines.{line-short}
 use borrow.Author.Needs.{needs}
 use Rattle.state_lines.proofs.put_line.Statement.{statement}
 use Rattle.state_lines.proofs.put_line.Tie as tie

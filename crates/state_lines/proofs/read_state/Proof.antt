@@ -3,7 +3,7 @@ use mathlib.Core.Path.{ap, sym, _∙_}
 use native.Mathlib.Omega.{arith}
 use denote.Ref.{now}
 use Rattle.state_lines.specs.Fields.{lineFrom}
-use Rattle.state_lines.specs.Laws.{line-read, next-inside}
+use Rattle.state_lines.specs.Lemmas.Machines.{line-read, next-inside}
 use borrow.Author.Needs.{needs}
 use Rattle.state_lines.proofs.read_state.Statement.{statement}
 use Rattle.state_lines.proofs.read_state.Tie as tie

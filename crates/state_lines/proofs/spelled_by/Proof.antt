@@ -1,5 +1,5 @@
 -- Each way out is one of the laws on the fields.
-use Rattle.state_lines.specs.Laws.{no-fields, other-status, whole-line}
+use Rattle.state_lines.specs.Lemmas.Machines.{no-fields, other-status, whole-line}
 use borrow.Author.Needs.{needs}
 use Rattle.state_lines.proofs.spelled_by.Statement.{statement}
 use Rattle.state_lines.proofs.spelled_by.Tie as tie

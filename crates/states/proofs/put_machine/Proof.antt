@@ -1,5 +1,5 @@
 -- One field after the other.
-use Rattle.text.specs.Laws.{then}
+use Rattle.text.specs.Lemmas.Texts.{then}
 use Rattle.states.specs.Fields.{machineFields}
 use borrow.Author.Needs.{needs}
 use Rattle.states.proofs.put_machine.Statement.{statement}

@@ -4,9 +4,10 @@ use mathlib.Core.Path.{refl, _∙_}
 use borrow.Author.Needs.{needs}
 use denote.Ref.{now}
 use Rattle.manual.specs.Micro.{Gives}
-use Rattle.cpu.specs.Turning.{turning, one-fits}
+use Rattle.cpu.specs.Inner.Turning.{turning}
+use Rattle.cpu.specs.Lemmas.Turning.{one-fits}
 use Rattle.numbers.specs.Machines.{machineFrom, linesFrom}
-use Rattle.mos6502.specs.Laws.{step-short-memory, step-on-full}
+use Rattle.mos6502.specs.Lemmas.Numbers.{step-short-memory, step-on-full}
 use Rattle.step_c.proofs.mos6502_step.Statement.{statement}
 use Rattle.step_c.proofs.mos6502_step.Tie as tie
 

@@ -1,8 +1,8 @@
 -- The parts one after the other.
 use native.Mathlib.Omega.{arith}
 use borrow.Author.Needs.{needs}
-use Rattle.text.specs.Laws.{then}
-use Rattle.tapes.specs.Writing.{end-written}
+use Rattle.text.specs.Lemmas.Texts.{then}
+use Rattle.tapes.specs.Lemmas.Writing.{end-written}
 use Rattle.tapes.proofs.put_end.Statement.{statement}
 use Rattle.tapes.proofs.put_end.Tie as tie
 

@@ -1,7 +1,7 @@
 -- A record that is not found is malformed; one that is found is judged by its numbers.
 use mathlib.Core.Path.{sym, _∙_}
 use borrow.Author.Needs.{needs}
-use Rattle.tapes.specs.Items.{item-malformed, item-by-parts}
+use Rattle.tapes.specs.Lemmas.Items.{item-malformed, item-by-parts}
 use Rattle.tapes.proofs.read_item.Statement.{statement}
 use Rattle.tapes.proofs.read_item.Tie as tie
 

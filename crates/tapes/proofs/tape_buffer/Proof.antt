@@ -1,5 +1,5 @@
 -- The length of a repeat, by its law: it is too long to be counted out.
-use Rattle.laws.specs.Repeats.{repeat-length}
+use Rattle.laws.specs.Lemmas.Repeats.{repeat-length}
 use Rattle.tapes.proofs.tape_buffer.Statement.{statement}
 use Rattle.tapes.proofs.tape_buffer.Tie as tie
 

@@ -4,7 +4,7 @@ use mathlib.Core.Path.{_≡_, refl}
 use native.Mathlib.Omega.{arith}
 use lib.ListN.{length, take}
 use Rattle.text.specs.Written.{Wrote}
-use Rattle.text.specs.Laws.{nothing, more, whole}
+use Rattle.text.specs.Lemmas.Texts.{nothing, more, whole}
 use Rattle.text.proofs.put_text.Statement.{statement}
 use Rattle.text.proofs.put_text.Tie as tie
 

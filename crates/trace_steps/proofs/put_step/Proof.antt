@@ -7,11 +7,11 @@ use borrow.Author.Needs.{needs}
 use denote.Ref.{now}
 use lib.ListN.{length, take}
 use lib.Seq.{length-take-le}
-use Rattle.manual.specs.Theorems.StepLaws.{step-whole}
-use Rattle.text.specs.Laws.{nothing, read-back}
+use Rattle.manual.specs.Lemmas.StepLaws.{step-whole}
+use Rattle.text.specs.Lemmas.Texts.{nothing, read-back}
 use Rattle.listing.specs.Lines.{instructionAt}
-use Rattle.listing.specs.Lengths.{instruction-length}
-use Rattle.trace_steps.specs.Laws.{not-back, shown-made, shown-refused}
+use Rattle.listing.specs.Lemmas.Lengths.{instruction-length}
+use Rattle.trace_steps.specs.Lemmas.Traces.{not-back, shown-made, shown-refused}
 use Rattle.trace_steps.proofs.put_step.Statement.{statement}
 use Rattle.trace_steps.proofs.put_step.Tie as tie
 

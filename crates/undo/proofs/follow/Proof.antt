@@ -1,8 +1,8 @@
 -- What stood at the places that the step stores to is put back.
 use mathlib.Core.Path.{ap, sym, _∙_}
 use denote.Ref.{now}
-use Rattle.undo.specs.Laws.{follow-refused, follow-made, follow-undone}
-use Rattle.undo.specs.Restoring.{step-undone}
+use Rattle.undo.specs.Lemmas.Places.{follow-refused, follow-made, follow-undone}
+use Rattle.undo.specs.Lemmas.Restoring.{step-undone}
 use borrow.Author.Needs.{needs}
 use Rattle.undo.proofs.follow.Statement.{statement}
 use Rattle.undo.proofs.follow.Tie as tie

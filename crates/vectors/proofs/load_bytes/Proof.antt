@@ -3,7 +3,7 @@ use mathlib.Core.Path.{_≡_, refl, _∙_}
 use native.Mathlib.Omega.{arith}
 use lib.ListN.{length}
 use Rattle.vectors.specs.Lines.{loadedFrom, mostCells}
-use Rattle.vectors.specs.Loops.{load-full, load-end, load-more}
+use Rattle.vectors.specs.Lemmas.Loops.{load-full, load-end, load-more}
 use Rattle.vectors.proofs.load_bytes.Statement.{statement}
 use Rattle.vectors.proofs.load_bytes.Tie as tie
 

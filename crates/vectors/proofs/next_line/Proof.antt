@@ -4,7 +4,7 @@ use mathlib.Core.Path.{_≡_, refl, sym, _∙_}
 use native.Mathlib.Omega.{arith}
 use lib.ListN.{length}
 use Rattle.vectors.specs.Lines.{lineAfter}
-use Rattle.vectors.specs.Loops.{line-none, line-end, line-more}
+use Rattle.vectors.specs.Lemmas.Loops.{line-none, line-end, line-more}
 use Rattle.vectors.proofs.next_line.Statement.{statement}
 use Rattle.vectors.proofs.next_line.Tie as tie
 

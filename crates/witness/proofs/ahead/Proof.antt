@@ -5,7 +5,7 @@ use borrow.Author.Needs.{needs}
 use Rattle.footprint.specs.declared.places.Footprint.{Footprint}
 use Rattle.footprint.specs.Places.{addresses}
 use Rattle.witness.specs.Guarded.{inEither, firstSealed}
-use Rattle.witness.specs.Laws.{quiet-kept}
+use Rattle.witness.specs.Lemmas.Watching.{quiet-kept}
 use Rattle.witness.proofs.ahead.Statement.{statement}
 use Rattle.witness.proofs.ahead.Tie as tie
 

@@ -20,13 +20,13 @@ use Rattle.manual.specs.Stepping.{fullMemory, highestCount, stepFull}
 use Rattle.manual.specs.ReadList.{listedStepFull}
 use Rattle.rows.specs.declared.Dispatched.{Dispatched}
 use Rattle.rows.specs.declared.Performed.{Performed}
-use Rattle.rows.specs.Performing.{ticksOf}
-use Rattle.cpu.specs.Clock.{stepsIn, cyclesIn, Keeps, no-step, last-cycles, less-steps, more-cycles, less}
-use Rattle.cpu.specs.Steps.{stepBy, StepsBy, step-by}
-use Rattle.cpu.specs.Turning.{raised}
+use Rattle.rows.specs.Inner.Performing.{ticksOf}
+use Rattle.cpu.specs.Lemmas.Clock.{stepsIn, cyclesIn, Keeps, no-step, last-cycles, less-steps, more-cycles, less}
+use Rattle.cpu.specs.Theorems.Steps.{stepBy, StepsBy, step-by}
+use Rattle.cpu.specs.Inner.Turning.{raised}
 use Rattle.witness.specs.declared.seals.Seen.the-variants.{Nothing}
 use Rattle.witness.specs.Guarded.{inEither, firstSealed, guardedFull}
-use Rattle.witness.specs.Laws.{level-held, held-quiet, seen-due, guarded-halts, guarded-goes-on, guarded-stops, guarded-late, guarded-end}
+use Rattle.witness.specs.Lemmas.Watching.{level-held, held-quiet, seen-due, guarded-halts, guarded-goes-on, guarded-stops, guarded-late, guarded-end}
 use Rattle.witness.proofs.patrol.Statement.{statement}
 use Rattle.witness.proofs.patrol.Tie as tie
 

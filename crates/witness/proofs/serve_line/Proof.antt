@@ -5,11 +5,11 @@ use borrow.Author.Needs.{needs}
 use denote.Ref.{now}
 use Rattle.manual.specs.declared.Due.the-variants.{Through}
 use Rattle.manual.specs.Theorems.Ranges.{vector-within}
-use Rattle.manual.specs.Theorems.StepLaws.{step-serves}
+use Rattle.manual.specs.Lemmas.StepLaws.{step-serves}
 use Rattle.footprint.specs.declared.places.Footprint.{Footprint}
 use Rattle.footprint.specs.Places.{addresses}
 use Rattle.witness.specs.Guarded.{inEither, firstSealed}
-use Rattle.witness.specs.Laws.{seen-due, guarded-halts, guarded-goes-on, guarded-late, guarded-end}
+use Rattle.witness.specs.Lemmas.Watching.{seen-due, guarded-halts, guarded-goes-on, guarded-late, guarded-end}
 use Rattle.witness.proofs.serve_line.Statement.{statement}
 use Rattle.witness.proofs.serve_line.Tie as tie
 

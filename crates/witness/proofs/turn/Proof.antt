@@ -5,9 +5,9 @@ use native.Mathlib.Omega.{arith}
 use borrow.Author.Needs.{needs}
 use denote.Ref.{now}
 use Rattle.manual.specs.declared.Due.{Due}
-use Rattle.cpu.specs.Turning.{stretch}
+use Rattle.cpu.specs.Inner.Turning.{stretch}
 use Rattle.witness.specs.Guarded.{inEither, guardedFull}
-use Rattle.witness.specs.Laws.{quiet-held, calm-steps}
+use Rattle.witness.specs.Lemmas.Watching.{quiet-held, calm-steps}
 use Rattle.witness.proofs.turn.Statement.{statement}
 use Rattle.witness.proofs.turn.Tie as tie
 

@@ -12,10 +12,11 @@ use Rattle.manual.specs.declared.Lines.{Lines}
 use Rattle.manual.specs.declared.Machine.{Machine}
 use Rattle.manual.specs.Interrupts.{due}
 use Rattle.manual.specs.Stepping.{fullMemory}
-use Rattle.cpu.specs.Turning.{stretch, Calm, Fits, reach, fitting, going, reach-calm, going-fits, going-most}
+use Rattle.cpu.specs.Inner.Turning.{stretch, Calm, Fits, reach, fitting, going}
+use Rattle.cpu.specs.Lemmas.Turning.{reach-calm, going-fits, going-most}
 use Rattle.witness.specs.declared.Watched.{Watched}
 use Rattle.witness.specs.Guarded.{inEither, guardedFull}
-use Rattle.witness.specs.Laws.{guarded-end, part-halts, part-stops, part-goes, turn-some}
+use Rattle.witness.specs.Lemmas.Watching.{guarded-end, part-halts, part-stops, part-goes, turn-some}
 use Rattle.witness.proofs.walk.Statement.{statement}
 use Rattle.witness.proofs.walk.Tie as tie
 

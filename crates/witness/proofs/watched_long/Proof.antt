@@ -5,7 +5,7 @@ use native.Mathlib.Omega.{arith}
 use denote.Ref.{now}
 use borrow.Author.Needs.{needs}
 use Rattle.witness.specs.Guarded.{inStretch, guardedFull}
-use Rattle.witness.specs.Laws.{long-short, long-whole}
+use Rattle.witness.specs.Lemmas.Watching.{long-short, long-whole}
 use Rattle.witness.proofs.watched_long.Statement.{statement}
 use Rattle.witness.proofs.watched_long.Tie as tie
 

@@ -5,7 +5,7 @@ use mathlib.Core.Bool.{Bool}
 use denote.Ref.{now}
 use borrow.Author.Needs.{needs}
 use Rattle.witness.specs.Guarded.{guardedFull}
-use Rattle.witness.specs.Laws.{stretch-alone}
+use Rattle.witness.specs.Lemmas.Watching.{stretch-alone}
 use Rattle.witness.proofs.watched_part.Statement.{statement}
 use Rattle.witness.proofs.watched_part.Tie as tie
 

@@ -6,7 +6,7 @@ use mathlib.Core.Bool.{Bool}
 use denote.Ref.{now}
 use borrow.Author.Needs.{needs}
 use Rattle.witness.specs.Guarded.{inEither, guardedFull}
-use Rattle.witness.specs.Laws.{pages-alone, guarded-short, guarded-long, guarded-whole}
+use Rattle.witness.specs.Lemmas.Watching.{pages-alone, guarded-short, guarded-long, guarded-whole}
 use Rattle.witness.proofs.watched_run.Statement.{statement}
 use Rattle.witness.proofs.watched_run.Tie as tie
 

@@ -1,7 +1,7 @@
 -- The length and the bound are tested, in that order, before any step.
 use mathlib.Core.Path.{sym, _∙_}
 use borrow.Author.Needs.{needs}
-use Rattle.witness.specs.Laws.{guarded-short, guarded-long, guarded-whole, long-whole}
+use Rattle.witness.specs.Lemmas.Watching.{guarded-short, guarded-long, guarded-whole, long-whole}
 use Rattle.witness.proofs.watched_stretch.Statement.{statement}
 use Rattle.witness.proofs.watched_stretch.Tie as tie
 

@@ -4,8 +4,9 @@ use mathlib.Core.Path.{_≡_, refl, sym, _∙_}
 use native.Mathlib.Omega.{arith}
 use lib.ListN.{length, take}
 use borrow.Author.Tests.{not-true, not-false}
-use Rattle.console.specs.Failing.{FailureStays, stays-on, noted}
-use Rattle.check_program.specs.Turns.{Sofar, none-yet, again, over}
+use Rattle.console.specs.Failing.{FailureStays}
+use Rattle.console.specs.Theorems.Failing.{stays-on, noted}
+use Rattle.check_program.specs.Lemmas.Turns.{Sofar, none-yet, again, over}
 use borrow.Author.Needs.{needs}
 use Rattle.check_program.proofs.log.check_from.Statement.{statement}
 use Rattle.check_program.proofs.log.check_from.Tie as tie

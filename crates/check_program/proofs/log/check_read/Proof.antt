@@ -3,7 +3,7 @@ use mathlib.Core.Path.{sym}
 use native.Mathlib.Omega.{arith}
 use denote.Ref.{now}
 use lib.Seq.{length-take-le}
-use Rattle.check_program.specs.Turns.{turned}
+use Rattle.check_program.specs.Lemmas.Turns.{turned}
 use borrow.Author.Needs.{needs}
 use Rattle.check_program.proofs.log.check_read.Statement.{statement}
 use Rattle.check_program.proofs.log.check_read.Tie as tie

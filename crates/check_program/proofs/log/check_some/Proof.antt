@@ -3,7 +3,7 @@ use Prim.Native.Nat.{ℕ}
 use mathlib.Core.Path.{_≡_}
 use native.Mathlib.Omega.{arith}
 use borrow.Author.Tests.{eqb-true}
-use Rattle.check_program.specs.Turns.{nothing}
+use Rattle.check_program.specs.Lemmas.Turns.{nothing}
 use borrow.Author.Needs.{needs}
 use Rattle.check_program.proofs.log.check_some.Statement.{statement}
 use Rattle.check_program.proofs.log.check_some.Tie as tie

@@ -5,7 +5,7 @@ use native.Mathlib.Omega.{arith}
 use denote.Ref.{now}
 use lib.ListN.{length, take, drop, length-drop}
 use lib.Seq.{length-take-le}
-use Rattle.text.specs.Laws.{read-back}
+use Rattle.text.specs.Lemmas.Texts.{read-back}
 use borrow.Author.Needs.{needs}
 use Rattle.check_program.proofs.log.keep_rest.Statement.{statement}
 use Rattle.check_program.proofs.log.keep_rest.Tie as tie

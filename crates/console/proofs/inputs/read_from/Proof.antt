@@ -4,7 +4,8 @@ use mathlib.Core.Path.{_≡_, refl, sym}
 use native.Mathlib.Omega.{arith}
 use lib.ListN.{length}
 use lib.Seq.{length-take-le}
-use Rattle.console.specs.Failing.{FailureStays, stays-on}
+use Rattle.console.specs.Failing.{FailureStays}
+use Rattle.console.specs.Theorems.Failing.{stays-on}
 use borrow.Author.Needs.{needs}
 use Rattle.console.proofs.inputs.read_from.Statement.{statement}
 use Rattle.console.proofs.inputs.read_from.Tie as tie

@@ -1,6 +1,6 @@
 -- By the test.
 use native.Mathlib.Omega.{arith}
-use Rattle.console.specs.Names.{name-within}
+use Rattle.console.specs.Lemmas.Names.{name-within}
 use borrow.Author.Needs.{needs}
 use Rattle.console.proofs.names.put_input_name.Statement.{statement}
 use Rattle.console.proofs.names.put_input_name.Tie as tie

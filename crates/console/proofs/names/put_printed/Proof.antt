@@ -5,8 +5,9 @@ use native.Mathlib.Omega.{arith}
 use denote.Ref.{now}
 use lib.ListN.{length, take, length-map}
 use Rattle.text.specs.Written.{Wrote}
-use Rattle.text.specs.Laws.{nothing, more, whole}
-use Rattle.console.specs.Names.{printed, printedName, printed-at}
+use Rattle.text.specs.Lemmas.Texts.{nothing, more, whole}
+use Rattle.console.specs.Names.{printed, printedName}
+use Rattle.console.specs.Lemmas.Names.{printed-at}
 use borrow.Author.Needs.{needs}
 use Rattle.console.proofs.names.put_printed.Statement.{statement}
 use Rattle.console.proofs.names.put_printed.Tie as tie

@@ -1,6 +1,6 @@
 -- The first failure stays.
 use mathlib.Core.Path.{_∙_}
-use Rattle.console.specs.Failing.{stays-noted}
+use Rattle.console.specs.Theorems.Failing.{stays-noted}
 use borrow.Author.Needs.{needs}
 use Rattle.console.proofs.outputs.note_failure.Statement.{statement}
 use Rattle.console.proofs.outputs.note_failure.Tie as tie

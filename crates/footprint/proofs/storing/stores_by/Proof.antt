@@ -2,8 +2,8 @@
 use mathlib.Core.Path.{_∙_}
 use native.Mathlib.Omega.{arith}
 use lib.ListN.{List·getD-eq-default}
-use Rattle.footprint.specs.Arms.{past-row}
-use Rattle.footprint.specs.Ways.{nothing, storeWays, storedBy}
+use Rattle.footprint.specs.Lemmas.Arms.{past-row}
+use Rattle.footprint.specs.Inner.Ways.{nothing, storeWays, storedBy}
 use Rattle.footprint.proofs.storing.stores_by.Statement.{statement}
 use Rattle.footprint.proofs.storing.stores_by.Tie as tie
 

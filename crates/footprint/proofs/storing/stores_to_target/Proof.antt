@@ -1,7 +1,7 @@
 -- Each arm gives the place of its way; the last one is left with the way 0.
 use mathlib.Core.Path.{_∙_}
-use Rattle.footprint.specs.Arms.{before-row}
-use Rattle.footprint.specs.Ways.{storeWays, storedBy}
+use Rattle.footprint.specs.Lemmas.Arms.{before-row}
+use Rattle.footprint.specs.Inner.Ways.{storeWays, storedBy}
 use Rattle.footprint.proofs.storing.stores_to_target.Statement.{statement}
 use Rattle.footprint.proofs.storing.stores_to_target.Tie as tie
 

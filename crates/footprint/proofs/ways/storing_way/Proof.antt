@@ -1,6 +1,6 @@
 -- Each arm's way is that of its opcodes, and the others have none.
 use native.Mathlib.Omega.{arith}
-use Rattle.footprint.specs.Ways.{stores-arm, stores-none}
+use Rattle.footprint.specs.Lemmas.Ways.{stores-arm, stores-none}
 use Rattle.footprint.proofs.ways.storing_way.Statement.{statement}
 use Rattle.footprint.proofs.ways.storing_way.Tie as tie
 

@@ -1,7 +1,7 @@
 -- The run refuses an image of another length by itself.
 use mathlib.Core.Path.{_∙_}
-use Rattle.manual.specs.Theorems.StepLaws.{long-short}
-use Rattle.reporting.specs.Laws.{started}
+use Rattle.manual.specs.Lemmas.StepLaws.{long-short}
+use Rattle.reporting.specs.Lemmas.Report.{started}
 use borrow.Author.Needs.{needs}
 use Rattle.go.proofs.running.run_image.Statement.{statement}
 use Rattle.go.proofs.running.run_image.Tie as tie

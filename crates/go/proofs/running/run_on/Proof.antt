@@ -8,9 +8,9 @@ use borrow.Author.Tests.{not-true, not-false}
 use Rattle.manual.specs.Micro.{exec}
 use Rattle.manual.specs.Interrupts.{idle}
 use Rattle.manual.specs.Stepping.{longRun}
-use Rattle.manual.specs.Theorems.StepLaws.{was-made}
+use Rattle.manual.specs.Lemmas.StepLaws.{was-made}
 use Rattle.manual.specs.Theorems.Lunch.{added}
-use Rattle.parts.specs.Parts.{Whole, was-stopped, long-steps, begun, turn, halt}
+use Rattle.parts.specs.Lemmas.Parts.{Whole, was-stopped, long-steps, begun, turn, halt}
 use Rattle.go.proofs.running.run_on.Statement.{statement}
 use Rattle.go.proofs.running.run_on.Tie as tie
 

@@ -4,9 +4,9 @@ use mathlib.Core.Path.{_≡_, refl, ap}
 use native.Mathlib.Omega.{arith}
 use lib.ListN.{length}
 use Rattle.text.specs.Written.{most}
-use Rattle.text.specs.Left.{Left, less-left, none-left}
+use Rattle.text.specs.Lemmas.Left.{Left, less-left, none-left}
 use Rattle.listing.specs.Lines.{bytesFrom, byteFields}
-use Rattle.listing.specs.Laws.{next-byte, none-byte, all-bytes}
+use Rattle.listing.specs.Lemmas.Lines.{next-byte, none-byte, all-bytes}
 use Rattle.listing.proofs.line.put_bytes.Statement.{statement}
 use Rattle.listing.proofs.line.put_bytes.Tie as tie
 

@@ -4,9 +4,9 @@ use mathlib.Core.Path.{_≡_, refl}
 use native.Mathlib.Omega.{arith}
 use lib.ListN.{length}
 use Rattle.text.specs.Written.{most}
-use Rattle.text.specs.Left.{Left, less-left, none-left}
+use Rattle.text.specs.Lemmas.Left.{Left, less-left, none-left}
 use Rattle.listing.specs.Lines.{unknown, texts}
-use Rattle.listing.specs.Laws.{next-unknown, none-unknown}
+use Rattle.listing.specs.Lemmas.Lines.{next-unknown, none-unknown}
 use Rattle.listing.proofs.lines.put_rest.Statement.{statement}
 use Rattle.listing.proofs.lines.put_rest.Tie as tie
 

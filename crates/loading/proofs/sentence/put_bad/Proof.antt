@@ -1,5 +1,5 @@
 -- One part after the other.
-use Rattle.text.specs.Laws.{then}
+use Rattle.text.specs.Lemmas.Texts.{then}
 use borrow.Author.Needs.{needs}
 use Rattle.loading.proofs.sentence.put_bad.Statement.{statement}
 use Rattle.loading.proofs.sentence.put_bad.Tie as tie

@@ -2,7 +2,7 @@
 use native.Mathlib.Omega.{arith}
 use borrow.Author.Tests.{eq-eqb, ne-eqb}
 use Rattle.loading.specs.Sentence.{sentence}
-use Rattle.loading.specs.Lengths.{said}
+use Rattle.loading.specs.Lemmas.Lengths.{said}
 use borrow.Author.Needs.{needs}
 use Rattle.loading.proofs.sentence.put_sentence.Statement.{statement}
 use Rattle.loading.proofs.sentence.put_sentence.Tie as tie

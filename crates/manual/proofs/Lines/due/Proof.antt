@@ -3,7 +3,7 @@ use mathlib.Core.Path.{_≡_, sym}
 use mathlib.Core.Logic.{⊎-elim}
 use mathlib.Core.Bool.{false, not}
 use Rattle.manual.specs.Interrupts.{falls}
-use Rattle.manual.specs.Theorems.StepLaws.{both, first-not, second-not, due-nmi, due-irq, due-none}
+use Rattle.manual.specs.Lemmas.StepLaws.{both, first-not, second-not, due-nmi, due-irq, due-none}
 use Rattle.manual.proofs.Lines.due.Statement.{statement}
 use Rattle.manual.proofs.Lines.due.Tie as tie
 

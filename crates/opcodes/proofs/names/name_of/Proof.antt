@@ -2,7 +2,7 @@
 use mathlib.Core.Path.{_∙_, ap}
 use native.Mathlib.Omega.{arith}
 use Rattle.opcodes.specs.Names.{nameOf}
-use Rattle.opcodes.specs.NameTable.{name-defined, name-undefined}
+use Rattle.opcodes.specs.Lemmas.NameTable.{name-defined, name-undefined}
 use Rattle.opcodes.proofs.names.name_of.Statement.{statement}
 use Rattle.opcodes.proofs.names.name_of.Tie as tie
 

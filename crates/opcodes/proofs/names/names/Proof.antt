@@ -1,8 +1,8 @@
 -- The constant's names are the definition's, by computation.
 use mathlib.Core.Path.{refl}
-use Rattle.meaning.specs.Operations.{operations}
+use Rattle.meaning.specs.Inner.Operations.{operations}
 use Rattle.opcodes.specs.Names.{mnemonic}
-use Rattle.opcodes.specs.NameTable.{names}
+use Rattle.opcodes.specs.Inner.NameTable.{names}
 use Rattle.opcodes.proofs.names.names.Statement.{statement}
 use Rattle.opcodes.proofs.names.names.Tie as tie
 

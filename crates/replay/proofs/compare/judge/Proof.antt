@@ -2,7 +2,7 @@
 use borrow.Author.Needs.{needs}
 use borrow.Author.Tests.{eq-eqb, ne-eqb}
 use Rattle.replay.specs.Comparison.{judged}
-use Rattle.replay.specs.SameBytes.{decides}
+use Rattle.replay.specs.Lemmas.SameBytes.{decides}
 use Rattle.replay.proofs.compare.judge.Statement.{statement}
 use Rattle.replay.proofs.compare.judge.Tie as tie
 

@@ -3,7 +3,7 @@ use Prim.Native.Nat.{_≤_, _-_}
 use mathlib.Core.Path.{_≡_, refl}
 use native.Mathlib.Omega.{arith}
 use lib.ListN.{length, length-set, take, replicate}
-use Rattle.replay.specs.Laws.{clear-more, cleared}
+use Rattle.replay.specs.Lemmas.Replay.{clear-more, cleared}
 use Rattle.replay.proofs.line.clear.Statement.{statement}
 use Rattle.replay.proofs.line.clear.Tie as tie
 

@@ -1,6 +1,6 @@
 -- Each part is the definition's, in the order in which they are read; both memories start as zeros.
 use native.Mathlib.Omega.{arith}
-use Rattle.replay.specs.Laws.{zeroed, line-read}
+use Rattle.replay.specs.Lemmas.Replay.{zeroed, line-read}
 use Rattle.replay.proofs.line.read_line.Statement.{statement}
 use Rattle.replay.proofs.line.read_line.Tie as tie
 

@@ -1,6 +1,6 @@
 -- By the number.
 use borrow.Author.Tests.{eq-eqb, ne-eqb}
-use Rattle.text.specs.Laws.{then}
+use Rattle.text.specs.Lemmas.Texts.{then}
 use borrow.Author.Needs.{needs}
 use Rattle.rescuing.proofs.sentence.put_kept_records.Statement.{statement}
 use Rattle.rescuing.proofs.sentence.put_kept_records.Tie as tie

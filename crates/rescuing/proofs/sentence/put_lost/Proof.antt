@@ -1,7 +1,7 @@
 -- One part after the other.
 use native.Mathlib.Omega.{arith}
-use Rattle.text.specs.Laws.{then, within}
-use Rattle.rescuing.specs.Lengths.{lost-length}
+use Rattle.text.specs.Lemmas.Texts.{then, within}
+use Rattle.rescuing.specs.Lemmas.Lengths.{lost-length}
 use borrow.Author.Needs.{needs}
 use Rattle.rescuing.proofs.sentence.put_lost.Statement.{statement}
 use Rattle.rescuing.proofs.sentence.put_lost.Tie as tie

@@ -1,10 +1,10 @@
 -- By the reader's answer; a sentence is short.
 use native.Mathlib.Omega.{arith}
 use borrow.Author.Tests.{eq-eqb, ne-eqb}
-use Rattle.text.specs.Laws.{then, within}
+use Rattle.text.specs.Lemmas.Texts.{then, within}
 use Rattle.text.specs.Written.{Wrote}
 use Rattle.rescuing.specs.Sentence.{keptSentence}
-use Rattle.rescuing.specs.Lengths.{kept-length}
+use Rattle.rescuing.specs.Lemmas.Lengths.{kept-length}
 use borrow.Author.Needs.{needs}
 use Rattle.rescuing.proofs.sentence.put_none_dropped.Statement.{statement}
 use Rattle.rescuing.proofs.sentence.put_none_dropped.Tie as tie

@@ -1,6 +1,6 @@
 -- The byte is that of the entry's mode.
 use Rattle.instruction.specs.declared.ReadOperation.the-variants.{ADC}
-use Rattle.rows.specs.Rows.{fetch-performs}
+use Rattle.rows.specs.Theorems.Rows.{fetch-performs}
 use borrow.Author.Needs.{needs}
 use Rattle.rows.proofs.keeping.adds.Statement.{statement}
 use Rattle.rows.proofs.keeping.adds.Tie as tie

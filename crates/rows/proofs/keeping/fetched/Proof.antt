@@ -1,6 +1,6 @@
 -- The byte of the mode's target, and a page cross.
 use mathlib.Core.Path.{_∙_}
-use Rattle.rows.specs.Rows.{fetching-gives}
+use Rattle.rows.specs.Theorems.Rows.{fetching-gives}
 use borrow.Author.Needs.{needs}
 use Rattle.rows.proofs.keeping.fetched.Statement.{statement}
 use Rattle.rows.proofs.keeping.fetched.Tie as tie

@@ -2,11 +2,11 @@
 use mathlib.Core.Path.{_∙_}
 use native.Mathlib.Omega.{arith}
 use denote.Ref.{now}
-use Rattle.meaning.specs.Operations.{operationAt, modeAt}
+use Rattle.meaning.specs.Inner.Operations.{operationAt, modeAt}
 use Rattle.manual.specs.Micro.{Gives}
 use Rattle.manual.specs.Instructions.{perform}
-use Rattle.manual.specs.Theorems.Extra.{extra-of}
-use Rattle.rows.specs.Rows.{entry-performed}
+use Rattle.manual.specs.Lemmas.Extra.{extra-of}
+use Rattle.rows.specs.Theorems.Rows.{entry-performed}
 use borrow.Author.Needs.{needs}
 use Rattle.rows.proofs.keeping.keeps.Statement.{statement}
 use Rattle.rows.proofs.keeping.keeps.Tie as tie

@@ -9,8 +9,8 @@ use Rattle.instruction.specs.declared.Instruction.{Instruction}
 use Rattle.instruction.specs.declared.Instruction.the-variants.{Read, Store, Modify, Branch, Internal, BRK, JMP, JSR, PHA, PHP, PLA, PLP, RTI, RTS}
 use Rattle.instruction.specs.declared.AddressingMode.{AddressingMode}
 use Rattle.instruction.proofs.Instruction.{the-type}
-use Rattle.meaning.specs.Storing.{storesIn}
-use Rattle.rows.specs.Rows.{never-both}
+use Rattle.meaning.specs.Inner.Storing.{storesIn}
+use Rattle.rows.specs.Theorems.Rows.{never-both}
 use borrow.Author.Needs.{needs}
 use Rattle.rows.proofs.storing.execute_storing.Statement.{statement}
 use Rattle.rows.proofs.storing.execute_storing.Tie as tie

@@ -14,7 +14,7 @@ use Rattle.manual.specs.Interrupts.{idle}
 use Rattle.manual.specs.Stepping.{fullMemory}
 use Rattle.witness.specs.declared.Watched.{Watched}
 use Rattle.witness.specs.Guarded.{inStretch, guardedFull}
-use Rattle.witness.specs.Laws.{part-halts, part-stops, part-goes}
+use Rattle.witness.specs.Lemmas.Watching.{part-halts, part-stops, part-goes}
 use Rattle.sealing.proofs.parts.watch_on.Statement.{statement}
 use Rattle.sealing.proofs.parts.watch_on.Tie as tie
 

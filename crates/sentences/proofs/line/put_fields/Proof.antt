@@ -1,8 +1,8 @@
 -- One field after the other; none is longer than its number can be.
 use native.Mathlib.Omega.{arith}
-use Rattle.text.specs.Laws.{then}
+use Rattle.text.specs.Lemmas.Texts.{then}
 use Rattle.sentences.specs.Line.{allFields}
-use Rattle.sentences.specs.Laws.{fields-fit}
+use Rattle.sentences.specs.Lemmas.Lengths.{fields-fit}
 use borrow.Author.Needs.{needs}
 use Rattle.sentences.proofs.line.put_fields.Statement.{statement}
 use Rattle.sentences.proofs.line.put_fields.Tie as tie

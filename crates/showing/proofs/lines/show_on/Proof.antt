@@ -8,9 +8,10 @@ use Rattle.manual.specs.Micro.{exec}
 use Rattle.manual.specs.Interrupts.{idle}
 use Rattle.manual.specs.Stepping.{longRun}
 use Rattle.manual.specs.Theorems.Lunch.{added}
-use Rattle.manual.specs.Theorems.StepLaws.{was-made}
-use Rattle.parts.specs.Parts.{Whole, was-stopped, long-steps, begun, turn, halt}
-use Rattle.console.specs.Failing.{FailureStays, stays-on}
+use Rattle.manual.specs.Lemmas.StepLaws.{was-made}
+use Rattle.parts.specs.Lemmas.Parts.{Whole, was-stopped, long-steps, begun, turn, halt}
+use Rattle.console.specs.Failing.{FailureStays}
+use Rattle.console.specs.Theorems.Failing.{stays-on}
 use borrow.Author.Needs.{needs}
 use Rattle.showing.proofs.lines.show_on.Statement.{statement}
 use Rattle.showing.proofs.lines.show_on.Tie as tie

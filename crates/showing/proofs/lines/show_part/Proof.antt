@@ -2,7 +2,7 @@
 use mathlib.Core.Path.{sym}
 use native.Mathlib.Omega.{arith}
 use lib.Seq.{length-take-le}
-use Rattle.tracing.specs.Laws.{no-longer, longest-is}
+use Rattle.tracing.specs.Lemmas.Findings.{no-longer, longest-is}
 use borrow.Author.Needs.{needs}
 use Rattle.showing.proofs.lines.show_part.Statement.{statement}
 use Rattle.showing.proofs.lines.show_part.Tie as tie

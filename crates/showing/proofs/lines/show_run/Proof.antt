@@ -1,8 +1,8 @@
 -- The run refuses an image of another length by itself.
 use mathlib.Core.Path.{_∙_}
-use Rattle.manual.specs.Theorems.StepLaws.{long-short}
-use Rattle.reporting.specs.Laws.{started}
-use Rattle.console.specs.Failing.{stays-on}
+use Rattle.manual.specs.Lemmas.StepLaws.{long-short}
+use Rattle.reporting.specs.Lemmas.Report.{started}
+use Rattle.console.specs.Theorems.Failing.{stays-on}
 use borrow.Author.Needs.{needs}
 use Rattle.showing.proofs.lines.show_run.Statement.{statement}
 use Rattle.showing.proofs.lines.show_run.Tie as tie

@@ -1,6 +1,6 @@
 -- Two pulls, one after the other.
 use mathlib.Core.Path.{_∙_}
-use Rattle.manual.specs.Theorems.InstructionLaws.{pull-address-gives}
+use Rattle.manual.specs.Lemmas.InstructionLaws.{pull-address-gives}
 use borrow.Author.Needs.{needs}
 use Rattle.stack.proofs.bytes.pull_address.Statement.{statement}
 use Rattle.stack.proofs.bytes.pull_address.Tie as tie

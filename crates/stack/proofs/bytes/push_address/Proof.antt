@@ -1,5 +1,5 @@
 -- Two pushes, one after the other.
-use Rattle.manual.specs.Theorems.InstructionLaws.{push-address-gives}
+use Rattle.manual.specs.Lemmas.InstructionLaws.{push-address-gives}
 use borrow.Author.Needs.{needs}
 use Rattle.stack.proofs.bytes.push_address.Statement.{statement}
 use Rattle.stack.proofs.bytes.push_address.Tie as tie

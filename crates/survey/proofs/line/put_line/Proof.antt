@@ -1,6 +1,6 @@
 -- The two parts and LF.
 use native.Mathlib.Omega.{arith}
-use Rattle.text.specs.Laws.{then}
+use Rattle.text.specs.Lemmas.Texts.{then}
 use Rattle.survey.specs.Line.{line}
 use borrow.Author.Needs.{needs}
 use Rattle.survey.proofs.line.put_line.Statement.{statement}

@@ -1,7 +1,7 @@
 -- One field after the other.
 use native.Mathlib.Omega.{arith}
-use Rattle.text.specs.Laws.{then, within}
-use Rattle.survey.specs.Laws.{read-fits}
+use Rattle.text.specs.Lemmas.Texts.{then, within}
+use Rattle.survey.specs.Lemmas.Lengths.{read-fits}
 use borrow.Author.Needs.{needs}
 use Rattle.survey.proofs.line.put_read.Statement.{statement}
 use Rattle.survey.proofs.line.put_read.Tie as tie

@@ -1,7 +1,7 @@
 -- One field after the other.
 use native.Mathlib.Omega.{arith}
-use Rattle.text.specs.Laws.{then, within}
-use Rattle.survey.specs.Laws.{rescue-fits}
+use Rattle.text.specs.Lemmas.Texts.{then, within}
+use Rattle.survey.specs.Lemmas.Lengths.{rescue-fits}
 use borrow.Author.Needs.{needs}
 use Rattle.survey.proofs.line.put_rescued.Statement.{statement}
 use Rattle.survey.proofs.line.put_rescued.Tie as tie

@@ -2,8 +2,8 @@
 use native.Mathlib.Omega.{arith}
 use denote.Ref.{now}
 use borrow.Author.Needs.{needs}
-use Rattle.text.specs.Laws.{then}
-use Rattle.tracing.specs.Laws.{line-length}
+use Rattle.text.specs.Lemmas.Texts.{then}
+use Rattle.tracing.specs.Lemmas.Findings.{line-length}
 use Rattle.tracing.proofs.entry.put_timing.Statement.{statement}
 use Rattle.tracing.proofs.entry.put_timing.Tie as tie
 

@@ -1,6 +1,6 @@
 -- One part after the other; a count of 64 bits has twenty digits.
 use native.Mathlib.Omega.{arith}
-use Rattle.text.specs.Laws.{then, decimal-length}
+use Rattle.text.specs.Lemmas.Texts.{then, decimal-length}
 use borrow.Author.Needs.{needs}
 use Rattle.tracing.proofs.finding.put_accepted.Statement.{statement}
 use Rattle.tracing.proofs.finding.put_accepted.Tie as tie

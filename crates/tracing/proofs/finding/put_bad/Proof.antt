@@ -4,7 +4,7 @@ use denote.Ref.{now}
 use lib.ListN.{length-append}
 use Rattle.laws.specs.Characters.{characters}
 use Rattle.text.specs.Numerals.{decimal}
-use Rattle.text.specs.Laws.{then, decimal-length}
+use Rattle.text.specs.Lemmas.Texts.{then, decimal-length}
 use mathlib.Core.List.{_++_}
 use borrow.Author.Needs.{needs}
 use Rattle.tracing.proofs.finding.put_bad.Statement.{statement}

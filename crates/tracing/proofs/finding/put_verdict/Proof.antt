@@ -2,8 +2,8 @@
 use Prim.Native.Nat.{_≤_}
 use native.Mathlib.Omega.{arith}
 use denote.Ref.{now}
-use Rattle.text.specs.Laws.{then, within}
-use Rattle.tracing.specs.Laws.{no-right, some-right, verdict-length}
+use Rattle.text.specs.Lemmas.Texts.{then, within}
+use Rattle.tracing.specs.Lemmas.Findings.{no-right, some-right, verdict-length}
 use borrow.Author.Needs.{needs}
 use Rattle.tracing.proofs.finding.put_verdict.Statement.{statement}
 use Rattle.tracing.proofs.finding.put_verdict.Tie as tie

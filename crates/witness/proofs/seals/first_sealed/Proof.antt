@@ -4,7 +4,7 @@ use mathlib.Core.Path.{_≡_, refl, sym, _∙_}
 use native.Mathlib.Omega.{arith}
 use lib.ListN.{take, drop}
 use Rattle.witness.specs.Guarded.{inEither, firstSealed}
-use Rattle.witness.specs.Laws.{first-over, first-found, first-next}
+use Rattle.witness.specs.Lemmas.Watching.{first-over, first-found, first-next}
 use borrow.Author.Needs.{needs}
 use Rattle.witness.proofs.seals.first_sealed.Statement.{statement}
 use Rattle.witness.proofs.seals.first_sealed.Tie as tie

@@ -1,0 +1,3 @@
+pub mod Ahead
+pub mod Turns
+pub mod Concluded

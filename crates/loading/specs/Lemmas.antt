@@ -1,0 +1,4 @@
+pub mod Lengths
+pub mod Formats
+pub mod Following
+pub mod Going

@@ -1,0 +1,4 @@
+pub mod Numbers
+pub mod Rounds
+pub mod Limits
+pub mod Behind

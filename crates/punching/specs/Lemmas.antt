@@ -1,0 +1,2 @@
+pub mod Punching
+pub mod Outcomes

@@ -1,0 +1,4 @@
+pub mod Lawful
+pub mod Reading
+pub mod Items
+pub mod Gaps

@@ -1,0 +1,10 @@
+pub mod Places
+pub mod Finding
+pub mod Loops
+pub mod Scanning
+pub mod Whole
+pub mod Items
+pub mod Gaps
+pub mod Spelling
+pub mod Onto
+pub mod Laying

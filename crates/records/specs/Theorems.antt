@@ -1,0 +1,4 @@
+pub mod Sums
+pub mod Sound
+pub mod Complete
+pub mod Refused

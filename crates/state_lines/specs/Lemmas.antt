@@ -1,0 +1,4 @@
+pub mod Standing
+pub mod Counting
+pub mod LineFeeds
+pub mod Machines

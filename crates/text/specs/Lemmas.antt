@@ -1,0 +1,4 @@
+pub mod Written
+pub mod Texts
+pub mod Left
+pub mod Delivered

@@ -1,0 +1,3 @@
+pub mod Restoring
+pub mod Places
+pub mod Following
