@@ -5,7 +5,7 @@ ghost use Prim.Native.Nat.{_+_, _<_};
 ghost use lib.ListN.{length};
 ghost use Rattle.manual.specs.Stepping.{fullMemory};
 ghost use Rattle.manual.specs.ReadList.{listedDue, listedStepFull, listedStep};
-ghost use Rattle.manual.specs.Stored.{storedByDue, storedByStep};
+ghost use Rattle.manual.specs.StoreList.{storedByDue, storedByStep};
 ghost use Rattle.footprint.specs.Places.{footprintOf};
 use manual::Due;
 use manual::FULL_MEMORY;

@@ -3,7 +3,7 @@ ghost use mathlib.Core.Path.{_≡_};
 ghost use Prim.Native.Nat.{_<_};
 ghost use lib.ListN.{length};
 ghost use Rattle.manual.specs.Stepping.{fullMemory};
-ghost use Rattle.manual.specs.Aims.{threePushed};
+ghost use Rattle.manual.specs.StoreList.{threePushed};
 ghost use Rattle.footprint.specs.Places.{footprintOf};
 ghost use Rattle.footprint.specs.Inner.Ways.{storedBy};
 use crate::aims::above;

@@ -2,7 +2,7 @@
 ghost use mathlib.Core.Path.{_≡_};
 ghost use lib.ListN.{length};
 ghost use Rattle.manual.specs.ReadList.{listedStep};
-ghost use Rattle.manual.specs.Stored.{storedByStep};
+ghost use Rattle.manual.specs.StoreList.{storedByStep};
 ghost use Rattle.numbers.specs.Machines.{machineFrom, linesFrom};
 ghost use Rattle.footprint.specs.Places.{footprintOf};
 use footprint::reads_of;

@@ -13,8 +13,7 @@ pub mod Interrupts
 pub mod Instructions
 pub mod Stepping
 pub mod ReadList
-pub mod Aims
-pub mod Stored
+pub mod StoreList
 pub mod Inner
 pub mod Lemmas
 pub mod Theorems

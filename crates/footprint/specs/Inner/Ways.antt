@@ -9,8 +9,7 @@ use Rattle.manual.specs.Words.{lowByte, addressOf, page, joined}
 use Rattle.manual.specs.Addressing.{operand}
 use Rattle.manual.specs.Interrupts.{irqVector}
 use Rattle.manual.specs.ReadList.{firstOperand, pointerAt, pulled, listedEntry}
-use Rattle.manual.specs.Aims.{threePushed}
-use Rattle.manual.specs.Stored.{storedByEntry}
+use Rattle.manual.specs.StoreList.{threePushed, storedByEntry}
 
 -- the addresses that a way gives, from the registers and the memory
 abbrev pub Way : Type 0

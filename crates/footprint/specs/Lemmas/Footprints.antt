@@ -13,7 +13,7 @@ use Rattle.instruction.specs.Opcodes.{decoded}
 use Rattle.manual.specs.Interrupts.{due}
 use Rattle.manual.specs.Stepping.{fullMemory, highestCount}
 use Rattle.manual.specs.ReadList.{listedEntry, listedDue, listedStepFull, listedStep}
-use Rattle.manual.specs.Stored.{storedByEntry, storedByDue, storedByStep}
+use Rattle.manual.specs.StoreList.{storedByEntry, storedByDue, storedByStep}
 use Rattle.footprint.specs.Places.{footprintOf}
 use Rattle.footprint.specs.Inner.Ways.{Way, readBy, storedBy, ReadsBy, StoresBy}
 

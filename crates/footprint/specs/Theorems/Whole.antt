@@ -11,7 +11,7 @@ use Rattle.manual.specs.Stepping.{step}
 use Rattle.manual.specs.ReadList.{listedStepFull, listedStep}
 use Rattle.manual.specs.Theorems.Reads.{step-reads}
 use Rattle.manual.specs.Theorems.FewReads.{at-most-five-reads}
-use Rattle.manual.specs.Stored.{storedByStep}
+use Rattle.manual.specs.StoreList.{storedByStep}
 use Rattle.manual.specs.Theorems.Stores.{step-stores, at-most-three-stores}
 use Rattle.footprint.specs.Places.{footprintOf, addresses}
 

@@ -32,7 +32,7 @@ use Rattle.manual.specs.Instructions.{modify, perform}
 use Rattle.manual.specs.Stepping.{fullMemory, highestCount, act, attend, stepFull, step}
 use Rattle.manual.specs.ReadList.{addressed, operands, pointers, reached, listed, listedDue}
 use Rattle.manual.specs.Lemmas.Programs.{accesses-bind, reads-append, stores-append, alike}
-use Rattle.manual.specs.Aims.{aim, threePushed, storedTo}
+use Rattle.manual.specs.StoreList.{aim, threePushed, storedTo}
 
 -- which of the two come first
 pub data Order : Type 0 where

@@ -20,7 +20,7 @@ use Rattle.manual.specs.Interrupts.{due}
 use Rattle.manual.specs.Stepping.{fullMemory, highestCount, highestBound, act, attend, stepFull, step, runWhile, onFull, bounded, runFull, run, longRun, spendFull, runCycles}
 use Rattle.manual.specs.ReadList.{listed, listedEntry, listedDue, listedStepFull, listedStep, listedRunWhile, listedOnFull, listedBounded, listedRun, listedLongRun, listedRunCycles}
 use Rattle.manual.specs.Lemmas.Programs.{reads-bind, alike}
-use Rattle.manual.specs.Aims.{storedTo, threePushed}
+use Rattle.manual.specs.StoreList.{storedTo, threePushed}
 use Rattle.manual.specs.Theorems.Accesses.{orderOf, stores-first, suits, entry-suits, act-accesses, attend-accesses, reads-in-order}
 
 -- the program p reads l

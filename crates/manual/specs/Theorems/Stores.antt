@@ -22,10 +22,9 @@ use Rattle.manual.specs.Interrupts.{due}
 use Rattle.manual.specs.Stepping.{fullMemory, highestCount, act, attend, stepFull, step}
 use Rattle.manual.specs.ReadList.{listed, listedDue}
 use Rattle.manual.specs.Lemmas.Programs.{alike, either}
-use Rattle.manual.specs.Aims.{threePushed, storedTo}
+use Rattle.manual.specs.StoreList.{threePushed, storedTo, storedByEntry, storedByDue, storedByStep}
 use Rattle.manual.specs.Theorems.Accesses.{orderOf, stores-first, suits, entry-suits, act-accesses, attend-accesses, stores-in-order}
 use Rattle.manual.specs.Theorems.FewReads.{Few}
-use Rattle.manual.specs.Stored.{storedByEntry, storedByDue, storedByStep}
 
 -- the program p stores to l
 abbrev StoresTo : {A : Type 0} → List ℕ → Micro A → List ℕ → Type 0

@@ -12,7 +12,7 @@ use Rattle.manual.specs.declared.Stepped.{Stepped}
 use Rattle.manual.specs.Micro.{Micro, done, read, write, exec, accesses, stores, Gives}
 use Rattle.manual.specs.Stepping.{step}
 use Rattle.manual.specs.Lemmas.Programs.{_∈_}
-use Rattle.manual.specs.Stored.{storedByStep}
+use Rattle.manual.specs.StoreList.{storedByStep}
 use Rattle.manual.specs.Theorems.Stores.{step-stores, at-most-three-stores}
 use Rattle.footprint.specs.declared.places.Footprint.{Footprint}
 use Rattle.footprint.specs.Places.{footprintOf}

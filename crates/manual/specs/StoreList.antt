@@ -1,9 +1,8 @@
--- What a step reads and stores to, in one list and in order: the rules' reads (ReadList), then the stores. Only two instructions read
--- after they have pushed: BRK its vector, as a served line does, and JSR the high byte of its operand. A store for each written byte: a store's target, a modified byte's, and what is pushed.
+-- The addresses that a step stores to, exactly and in order: the target of a store or of a modified byte, and what is pushed.
 use Prim.Native.Nat.{ℕ, _+_}
 use mathlib.Core.Bool.{cond}
 use mathlib.Core.List.{List, [], _∷_}
-use lib.Dec.{eqb}
+use lib.Dec.{eqb, ltb}
 use Rattle.registers.specs.declared.Registers.{Registers}
 use Rattle.instruction.specs.declared.Instruction.{Instruction}
 use Rattle.instruction.specs.declared.Instruction.the-variants.{Read, Store, Modify, Branch, Internal, BRK, JMP, JSR, PHA, PHP, PLA, PLP, RTI, RTS}
@@ -12,8 +11,16 @@ use Rattle.instruction.specs.Modes.{operandBytes}
 use Rattle.manual.specs.Micro.{exec}
 use Rattle.manual.specs.Words.{lowByte, joined}
 use Rattle.manual.specs.Addressing.{target}
-
--- ---- the list
+use lib.ListN.{getD}
+use Rattle.instruction.specs.declared.Decoded.{Decoded}
+use Rattle.instruction.specs.declared.Decoded.the-variants.{Defined, Undefined}
+use Rattle.instruction.specs.Opcodes.{decoded}
+use Rattle.manual.specs.declared.Lines.{Lines}
+use Rattle.manual.specs.declared.Machine.{Machine}
+use Rattle.manual.specs.declared.Due.{Due}
+use Rattle.manual.specs.declared.Due.the-variants.{Through, Quiet}
+use Rattle.manual.specs.Interrupts.{due}
+use Rattle.manual.specs.Stepping.{fullMemory, highestCount}
 
 -- the address that the mode leads to
 abbrev pub aim : AddressingMode → Registers → List ℕ → ℕ
@@ -38,3 +45,17 @@ storedTo PLP mode r m = []
 storedTo PHA mode r m = joined 1 (r .stack .0) ∷ []
 storedTo PHP mode r m = joined 1 (r .stack .0) ∷ []
 storedTo BRK mode r m = threePushed r
+
+abbrev pub storedByEntry : Decoded → Registers → List ℕ → List ℕ
+storedByEntry (Defined e) r m = storedTo (e .instruction) (e .mode) r m
+storedByEntry Undefined r m = []
+
+-- a line that is served pushes three bytes
+abbrev pub storedByDue : Due → Registers → List ℕ → List ℕ
+storedByDue (Through vector) r m = threePushed r
+storedByDue Quiet r m = storedByEntry (decoded (getD m (r .counter) 0)) r m
+
+-- a refused step stores nothing
+abbrev pub storedByStep : ℕ → Lines → Machine → List ℕ → List ℕ
+storedByStep size lines s m =
+    cond (eqb size fullMemory) (cond (ltb highestCount (s .cycles)) [] (storedByDue (due lines s) (s .registers) m)) []
