@@ -3,7 +3,7 @@
  *
  *     rt staticlib traces_c
  *     cc -I host/include host/examples/check_trace.c target/staticlib/libtraces_c.a -o target/check_trace
- *     target/check_trace crates/trace/stdin crates/trace/stdout
+ *     target/check_trace crates/program_trace/stdin crates/program_trace/stdout
  */
 #include <stdio.h>
 

@@ -6,7 +6,7 @@
  *     rt staticlib step_c
  *     rt staticlib footprint_c
  *     cc -I host/include host/examples/footprints.c target/staticlib/libstep_c.a target/staticlib/libmos6502.a target/staticlib/libfootprint_c.a -o target/footprints
- *     target/footprints 4 crates/sealed/data/letter.img
+ *     target/footprints 4 crates/program_sealed/data/letter.img
  */
 #include <stdio.h>
 #include <stdlib.h>

@@ -2,7 +2,7 @@
  *
  *     rt staticlib tapes_c
  *     cc -I host/include host/examples/load_tape.c target/staticlib/libtapes_c.a -o target/load_tape
- *     target/load_tape crates/load/stdin
+ *     target/load_tape crates/program_load/stdin
  */
 #include <inttypes.h>
 #include <stdio.h>

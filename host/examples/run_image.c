@@ -3,7 +3,7 @@
  *
  *     rt staticlib mos6502
  *     cc -I host/include host/examples/run_image.c target/staticlib/libmos6502.a -o target/run_image
- *     target/run_image 0202 50000000 crates/report/stdin
+ *     target/run_image 0202 50000000 crates/program_report/stdin
  */
 #include <inttypes.h>
 #include <stdio.h>

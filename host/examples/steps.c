@@ -5,7 +5,7 @@
  *     rt staticlib mos6502
  *     rt staticlib step_c
  *     cc -I host/include host/examples/steps.c target/staticlib/libstep_c.a target/staticlib/libmos6502.a -o target/steps
- *     target/steps 20 crates/report/data/for-ever.img
+ *     target/steps 20 crates/program_report/data/for-ever.img
  */
 #include <inttypes.h>
 #include <stdio.h>

@@ -4,7 +4,7 @@
  *
  *     rt staticlib watch_c
  *     cc -I host/include host/examples/watch_image.c target/staticlib/libwatch_c.a -o target/watch_image
- *     target/watch_image 0400 04FF 2000 crates/sealed/data/letter.img
+ *     target/watch_image 0400 04FF 2000 crates/program_sealed/data/letter.img
  */
 #include <stdio.h>
 #include <stdlib.h>

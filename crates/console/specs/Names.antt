@@ -4,7 +4,7 @@ use mathlib.Core.Bool.{cond}
 use mathlib.Core.List.{List, map}
 use lib.Dec.{eqb, ltb}
 use lib.ListN.{length}
-use Rattle.text.specs.Written.{Wrote}
+use Rattle.text_writing.specs.Written.{Wrote}
 
 -- a control character is printed as a question mark, so that no name ends a line or moves a cursor
 unfoldable pub printed : ℕ → ℕ

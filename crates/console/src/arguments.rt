@@ -1,9 +1,9 @@
 // The words after a program's name.
 ghost use Prim.Native.Nat.{_+_, _≤_};
-use reading::Count;
-use reading::Word;
-use reading::whole_count;
-use reading::whole_word;
+use text_reading::Count;
+use text_reading::Word;
+use text_reading::whole_count;
+use text_reading::whole_word;
 
 // Whether an argument is there and is that word.
 pub fn argument_is(index: usize, word: &[u8]) -> bool {

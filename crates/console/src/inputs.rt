@@ -11,7 +11,7 @@ use crate::outputs::say;
 use libc::STDIN_FILENO;
 use statuses::FAILED;
 use statuses::NOT_OPENED;
-use text::put_text;
+use text_writing::put_text;
 
 // Opens a file, which sentences call `shown`. If it cannot be opened 66 is noted, and the answer is below 0.
 fn open_file(name: &[u8], shown: &[u8], failed: &mut u8) -> i32

@@ -1,13 +1,13 @@
 // The name of a file, as it is printed, and a sentence about what it names.
 ghost use Prim.Native.Nat.{_≤_};
 ghost use mathlib.Core.Path.{_≡_};
-ghost use Rattle.text.specs.Written.{Wrote};
+ghost use Rattle.text_writing.specs.Written.{Wrote};
 ghost use Rattle.console.specs.Failing.{FailureStays};
 ghost use Rattle.console.specs.Names.{printed as Names·printed, printedName, WroteName};
 use crate::arguments::is_standard_input;
 use crate::outputs::say;
-use text::put_byte;
-use text::put_text;
+use text_writing::put_byte;
+use text_writing::put_text;
 
 fn printed(byte: u8) -> u8
     ensures { λ r. ⌜ r ≡ Names·printed byte ⌝ }

@@ -10,9 +10,9 @@ use Rattle.instruction.specs.Opcodes.{decoded}
 use Rattle.instruction.specs.Modes.{lengthOf}
 use Rattle.manual.specs.Words.{addressOf}
 use Rattle.laws.specs.Characters.{characters}
-use Rattle.text.specs.Numerals.{hex2, hex4, spaced}
-use Rattle.opcodes.specs.Names.{nameOf}
-use Rattle.notation.specs.Operands.{operand}
+use Rattle.text_writing.specs.Numerals.{hex2, hex4, spaced}
+use Rattle.opcode_table.specs.Names.{nameOf}
+use Rattle.listing_operands.specs.Operands.{operand}
 
 -- a line: an address, the bytes from there on, and what they are
 pub record Line : Type 0 where

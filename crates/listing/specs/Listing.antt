@@ -5,7 +5,7 @@ use mathlib.Core.List.{List}
 use lib.Dec.{eqb, ltb}
 use lib.ListN.{length}
 use Rattle.manual.specs.Stepping.{fullMemory}
-use Rattle.text.specs.Delivered.{Delivered, refused, delivered}
+use Rattle.text_writing.specs.Delivered.{Delivered, refused, delivered}
 use Rattle.listing.specs.Lines.{lines, texts}
 
 -- its text, to the last address

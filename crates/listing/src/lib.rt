@@ -2,11 +2,11 @@
 ghost use Prim.Native.Nat.{_≤_};
 ghost use mathlib.Core.Path.{_≡_};
 ghost use lib.ListN.{length};
-ghost use Rattle.text.specs.Delivered.{withBuffer};
+ghost use Rattle.text_writing.specs.Delivered.{withBuffer};
 ghost use Rattle.listing.specs.Listing.{listingInto};
 pub use line::put_instruction;
 use lines::put_lines;
-use text::Delivery;
+use text_writing::Delivery;
 
 mod line; // line.rt: one line
 mod lines; // lines.rt: the lines of a stretch

@@ -4,18 +4,18 @@ ghost use mathlib.Core.Path.{_≡_};
 ghost use lib.ListN.{length, getD};
 ghost use Rattle.instruction.specs.declared.Decoded.the-variants.{Undefined};
 ghost use Rattle.instruction.specs.Opcodes.{decoded};
-ghost use Rattle.text.specs.Written.{Wrote};
+ghost use Rattle.text_writing.specs.Written.{Wrote};
 ghost use Rattle.listing.specs.Lines.{bytesFrom, byteFields, size as Lines·size, words, lineOf, text as Lines·text, instructionAt};
 use instruction::Decoded;
+use listing_operands::put_operand;
 use memory::Address;
 use memory::get_byte;
-use notation::put_operand;
-use opcodes::decode;
-use opcodes::name_of;
-use text::put_byte;
-use text::put_hex4;
-use text::put_spaced_hex2;
-use text::put_text;
+use opcode_table::decode;
+use opcode_table::name_of;
+use text_writing::put_byte;
+use text_writing::put_hex4;
+use text_writing::put_spaced_hex2;
+use text_writing::put_text;
 
 // How many bytes the line of an opcode takes.
 pub(crate) fn line_size(opcode: u8) -> u16

@@ -2,7 +2,7 @@
 ghost use Prim.Native.Nat.{_≤_, _-_};
 ghost use mathlib.Core.Path.{_≡_};
 ghost use lib.ListN.{length};
-ghost use Rattle.text.specs.Written.{Wrote};
+ghost use Rattle.text_writing.specs.Written.{Wrote};
 ghost use Rattle.listing.specs.Lines.{lines, unknown, texts};
 use crate::line::line_size;
 use crate::line::put_line;

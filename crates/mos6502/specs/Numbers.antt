@@ -6,7 +6,7 @@ use Rattle.manual.specs.declared.Ended.{Ended}
 use Rattle.manual.specs.Micro.{Micro, done, _>>=_}
 use Rattle.manual.specs.Outcomes.{number, isMade}
 use Rattle.manual.specs.Stepping.{step, run, longRun, runCycles}
-use Rattle.numbers.specs.Machines.{machineFrom, linesFrom, registersAfter, cyclesAfter}
+use Rattle.mos6502_numbers.specs.Machines.{machineFrom, linesFrom, registersAfter, cyclesAfter}
 
 -- what comes back of a step: the answer, the first address on the bus, and the two numbers after it
 pub record StepNumbers : Type 0 where

@@ -5,16 +5,16 @@ ghost use lib.ListN.{length};
 ghost use Rattle.instruction.specs.Opcodes.{decoded};
 ghost use Rattle.manual.specs.Micro.{Gives};
 ghost use Rattle.manual.specs.Stepping.{fullMemory};
-ghost use Rattle.rows.specs.Inner.Performing.{dispatched, finished};
-use meaning::number::*;
+ghost use Rattle.opcode_effects.specs.Inner.Performing.{dispatched, finished};
+use opcode_effects::Dispatched;
+use opcode_effects::Row;
+use opcode_effects::adds;
+use opcode_effects::finish;
+use opcode_effects::keeps;
+use opcode_effects::stores;
+use opcode_effects::subtracts;
+use opcode_numbers::number::*;
 use registers::Registers;
-use rows::Dispatched;
-use rows::Row;
-use rows::adds;
-use rows::finish;
-use rows::keeps;
-use rows::stores;
-use rows::subtracts;
 
 // The opcode's row.
 fn line(opcode: u8, registers: Registers, memory: &mut [u8]) -> Row

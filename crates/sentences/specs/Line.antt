@@ -6,8 +6,8 @@ use lib.Dec.{eqb}
 use Rattle.manual.specs.declared.Ended.{Ended}
 use Rattle.manual.specs.Outcomes.{number}
 use Rattle.laws.specs.Characters.{characters}
-use Rattle.text.specs.Numerals.{decimal, spaced}
-use Rattle.states.specs.Fields.{machineFields}
+use Rattle.text_writing.specs.Numerals.{decimal, spaced}
+use Rattle.trace_fields.specs.Fields.{machineFields}
 
 -- the reason, the number of steps, and the machine
 unfoldable pub allFields : Ended → List ℕ

@@ -8,8 +8,8 @@ use Rattle.manual.specs.declared.Reason.{Reason}
 use Rattle.manual.specs.declared.Reason.the-variants.{Made, MemoryNotFull, NoCycleRoom, NotAnOpcode, BoundTooHigh}
 use Rattle.manual.specs.Outcomes.{isMade}
 use Rattle.laws.specs.Characters.{characters}
-use Rattle.halted.specs.Halted.{isHalted}
-use Rattle.text.specs.Numerals.{hex2, hex4, decimal}
+use Rattle.image_halted.specs.Halted.{isHalted}
+use Rattle.text_writing.specs.Numerals.{hex2, hex4, decimal}
 use Rattle.statuses.specs.declared.Goal.{Goal}
 use Rattle.statuses.specs.Statuses.{reached}
 

@@ -1,13 +1,13 @@
 // The line of a run's answer.
 ghost use Prim.Native.Nat.{_+_, _≤_};
-ghost use Rattle.text.specs.Written.{Wrote};
+ghost use Rattle.text_writing.specs.Written.{Wrote};
 ghost use Rattle.sentences.specs.Line.{allFields, line};
 use manual::Ended;
-use states::put_machine;
-use text::put_byte;
-use text::put_decimal;
-use text::put_spaced_decimal;
-use text::put_text;
+use text_writing::put_byte;
+use text_writing::put_decimal;
+use text_writing::put_spaced_decimal;
+use text_writing::put_text;
+use trace_fields::put_machine;
 
 fn put_fields(out: &mut [u8], at: usize, ended: Ended) -> usize
     ensures { λ r. ⌜ Wrote (now (out .entry)) at (allFields ended) (now (out .exit)) r ⌝ }

@@ -1,18 +1,18 @@
 // How a run ended, in words.
 ghost use Prim.Native.Nat.{_+_, _≤_};
-ghost use Rattle.text.specs.Written.{Wrote};
+ghost use Rattle.text_writing.specs.Written.{Wrote};
 ghost use Rattle.sentences.specs.Sentence.{stop, running, refused, meaning, allMade, endedAt, done, sentence};
-use halted::is_halted;
+use image_halted::is_halted;
 use manual::Ended;
 use manual::Reason;
 use memory::Address;
 use memory::peek;
 use statuses::Goal;
 use statuses::reached;
-use text::put_decimal;
-use text::put_hex2;
-use text::put_hex4;
-use text::put_text;
+use text_writing::put_decimal;
+use text_writing::put_hex2;
+use text_writing::put_hex4;
+use text_writing::put_text;
 
 fn put_stop(out: &mut [u8], at: usize, byte: u8, counter: u16) -> usize
     ensures { λ r. ⌜ Wrote (now (out .entry)) at (stop byte counter) (now (out .exit)) r ⌝ }

@@ -6,7 +6,7 @@ use lib.Dec.{eqb}
 use Rattle.manual.specs.declared.Ended.{Ended}
 use Rattle.manual.specs.Outcomes.{number}
 use Rattle.laws.specs.Characters.{characters}
-use Rattle.text.specs.Numerals.{decimal}
+use Rattle.text_writing.specs.Numerals.{decimal}
 use Rattle.statuses.specs.declared.Goal.{Goal}
 use Rattle.statuses.specs.declared.Goal.the-variants.{Unnamed, At, AllSteps}
 

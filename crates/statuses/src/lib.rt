@@ -1,13 +1,13 @@
 // The exit status of a program: what it was asked for, whether that is done, and the number that says so.
 ghost use Prim.Native.Nat.{_+_, _≤_};
 ghost use mathlib.Core.Path.{_≡_};
-ghost use Rattle.text.specs.Written.{Wrote};
+ghost use Rattle.text_writing.specs.Written.{Wrote};
 ghost use Rattle.statuses.specs.Statuses.{reached as Statuses·reached, endStatus, checkStatus, rescueStatus, logStatus, firstOf, statusLine};
 use manual::Ended;
 use manual::Reason;
-use text::put_byte;
-use text::put_decimal;
-use text::put_text;
+use text_writing::put_byte;
+use text_writing::put_decimal;
+use text_writing::put_text;
 
 // The statuses that are no answer number.
 pub const STILL_RUNNING: u8 = 20;

@@ -12,8 +12,8 @@ use Rattle.manual.specs.Outcomes.{isMade}
 use Rattle.manual.specs.Interrupts.{idle}
 use Rattle.manual.specs.Stepping.{fullMemory, stepFull}
 use Rattle.listing.specs.Lines.{instructionAt}
-use Rattle.tracing.specs.declared.View.{View}
-use Rattle.tracing.specs.Entries.{entryText}
+use Rattle.trace_text.specs.declared.View.{View}
+use Rattle.trace_text.specs.Entries.{entryText}
 
 -- the entry of a step from s on the memory m that answers q; a refused step has none
 abbrev pub shown : View → List ℕ → Machine → Stepped → List ℕ

@@ -5,8 +5,8 @@ ghost use lib.ListN.{length};
 ghost use Rattle.manual.specs.Micro.{Gives};
 ghost use Rattle.manual.specs.Interrupts.{idle};
 ghost use Rattle.manual.specs.Stepping.{fullMemory, stepFull, longRun};
-ghost use Rattle.text.specs.Written.{Wrote};
-ghost use Rattle.tracing.specs.Entries.{longest};
+ghost use Rattle.text_writing.specs.Written.{Wrote};
+ghost use Rattle.trace_text.specs.Entries.{longest};
 ghost use Rattle.trace_steps.specs.Traces.{shown, trace};
 use cpu::single_step;
 use listing::put_instruction;
@@ -16,8 +16,8 @@ use manual::Lines;
 use manual::Machine;
 use manual::Reason;
 use manual::Stepped;
-use tracing::View;
-use tracing::put_entry;
+use trace_text::View;
+use trace_text::put_entry;
 
 // What a step answers, and where its entry ends.
 struct ShownStep {

@@ -4,7 +4,7 @@ use mathlib.Core.Path.{_≡_, refl}
 use mathlib.Core.List.{List, [], _∷_}
 use native.Mathlib.Omega.{arith}
 use lib.ListN.{length, getD, length-map}
-use Rattle.text.specs.Lemmas.Texts.{within}
+use Rattle.text_writing.specs.Lemmas.Texts.{within}
 use Rattle.console.specs.Names.{printed, printedName, WroteName}
 
 -- Where it ends.

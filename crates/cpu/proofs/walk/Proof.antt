@@ -10,9 +10,9 @@ use Rattle.manual.specs.declared.Machine.{Machine}
 use Rattle.manual.specs.Micro.{Micro, exec, Gives}
 use Rattle.manual.specs.Outcomes.{machineOf}
 use Rattle.manual.specs.Stepping.{fullMemory, highestCount, stepFull}
-use Rattle.rows.specs.declared.Dispatched.{Dispatched}
-use Rattle.rows.specs.declared.Performed.{Performed}
-use Rattle.rows.specs.Inner.Performing.{ticksOf}
+use Rattle.opcode_effects.specs.declared.Dispatched.{Dispatched}
+use Rattle.opcode_effects.specs.declared.Performed.{Performed}
+use Rattle.opcode_effects.specs.Inner.Performing.{ticksOf}
 use Rattle.cpu.specs.declared.Travelled.{Travelled}
 use Rattle.cpu.specs.Lemmas.Clock.{stepsIn, cyclesIn, Keeps, no-step, last-cycles, less-steps, more-cycles, less}
 use Rattle.cpu.specs.Theorems.Steps.{stepBy, StepsBy, step-by}

@@ -2,7 +2,7 @@
 use Prim.Native.Nat.{ℕ, suc, _+_, _-_, _*_, _/_, _%_, _≤_, _<_}
 use mathlib.Core.Path.{_≡_, ap, _∙_}
 use native.Mathlib.Omega.{arith}
-use Rattle.rows.specs.Inner.Performing.{ticksOf}
+use Rattle.opcode_effects.specs.Inner.Performing.{ticksOf}
 
 abbrev pub stepsIn : ℕ → ℕ
 stepsIn clock = clock / 268435456

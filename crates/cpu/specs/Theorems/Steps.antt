@@ -20,8 +20,8 @@ use Rattle.manual.specs.Stepping.{highestCount, made, stepFull}
 use Rattle.manual.specs.Lemmas.Extra.{extra-most}
 use Rattle.manual.specs.Lemmas.Programs.{exec-bind}
 use Rattle.manual.specs.Lemmas.StepLaws.{opcodeOf, step-defined, step-undefined}
-use Rattle.rows.specs.declared.Dispatched.{Dispatched}
-use Rattle.rows.specs.Inner.Performing.{ticksOf, dispatched}
+use Rattle.opcode_effects.specs.declared.Dispatched.{Dispatched}
+use Rattle.opcode_effects.specs.Inner.Performing.{ticksOf, dispatched}
 
 -- what a step answers by it
 abbrev pub stepBy : Lines → Machine → Dispatched → Stepped

@@ -1,7 +1,7 @@
 -- One law for each way out. The length of the text is what its first writing answers.
 use native.Mathlib.Omega.{arith}
 use denote.Ref.{now}
-use Rattle.text.specs.Lemmas.Delivered.{all-written, no-room}
+use Rattle.text_writing.specs.Lemmas.Delivered.{all-written, no-room}
 use Rattle.listing.specs.Listing.{listing}
 use Rattle.listing.specs.Lemmas.Outcomes.{to-the-last, listing-length, not-full, backwards, in-order}
 use Rattle.listing.proofs.list.Statement.{statement}

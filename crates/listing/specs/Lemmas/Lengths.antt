@@ -19,8 +19,8 @@ use Rattle.instruction.specs.declared.Decoded.{Decoded}
 use Rattle.instruction.specs.declared.Decoded.the-variants.{Defined, Undefined}
 use Rattle.instruction.specs.Opcodes.{decoded}
 use Rattle.laws.specs.Characters.{characters}
-use Rattle.opcodes.specs.Names.{mnemonic, nameOf}
-use Rattle.notation.specs.Operands.{written, operand}
+use Rattle.opcode_table.specs.Names.{mnemonic, nameOf}
+use Rattle.listing_operands.specs.Operands.{written, operand}
 use Rattle.listing.specs.Lines.{Line, bytesFrom, size, operandOf, lineOf, unknown, lines, byteFields, fields, text, texts, instructionAt}
 use Rattle.listing.specs.Lemmas.Lines.{size-most}
 

@@ -14,9 +14,9 @@ use Rattle.instruction.specs.declared.Decoded.the-variants.{Defined, Undefined}
 use Rattle.instruction.specs.Opcodes.{decoded}
 use Rattle.instruction.specs.Modes.{lengthOf}
 use Rattle.manual.specs.Words.{addressOf}
-use Rattle.opcodes.specs.Names.{nameOf}
-use Rattle.notation.specs.Operands.{operand}
-use Rattle.text.specs.Numerals.{hex2, spaced}
+use Rattle.opcode_table.specs.Names.{nameOf}
+use Rattle.listing_operands.specs.Operands.{operand}
+use Rattle.text_writing.specs.Numerals.{hex2, spaced}
 use Rattle.listing.specs.Lines.{Line, bytesFrom, size, words, lineOf, unknown, lines, byteFields, text, texts}
 
 -- A line takes 1 to 3 bytes.

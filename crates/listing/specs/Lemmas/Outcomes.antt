@@ -6,8 +6,8 @@ use native.Mathlib.Omega.{arith}
 use lib.ListN.{length}
 use borrow.Author.Tests.{eq-eqb, ne-eqb, lt-ltb, le-ltb}
 use Rattle.manual.specs.Stepping.{fullMemory}
-use Rattle.text.specs.Written.{Wrote}
-use Rattle.text.specs.Delivered.{Delivered, refused, delivered}
+use Rattle.text_writing.specs.Written.{Wrote}
+use Rattle.text_writing.specs.Delivered.{Delivered, refused, delivered}
 use Rattle.listing.specs.Lines.{lines, texts}
 use Rattle.listing.specs.Listing.{listing, listingInto}
 use Rattle.listing.specs.Lemmas.Lengths.{lines-length}

@@ -15,9 +15,9 @@ use Rattle.manual.specs.Words.{addressOf, signed, around}
 use Rattle.manual.specs.Branching.{branchTarget}
 use Rattle.manual.specs.Lemmas.Programs.{either as by-test}
 use Rattle.laws.specs.Characters.{characters}
-use Rattle.text.specs.Numerals.{digit}
-use Rattle.opcodes.specs.Names.{mnemonic}
-use Rattle.notation.specs.Operands.{written, operand}
+use Rattle.text_writing.specs.Numerals.{digit}
+use Rattle.opcode_table.specs.Names.{mnemonic}
+use Rattle.listing_operands.specs.Operands.{written, operand}
 use Rattle.listing.specs.Lines.{Line, bytesFrom, size, lineOf, unknown, lines}
 use Rattle.listing.specs.Listing.{listing}
 use Rattle.listing.specs.Lemmas.Lines.{size-some}

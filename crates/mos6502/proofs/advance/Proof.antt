@@ -9,7 +9,7 @@ use Rattle.manual.specs.declared.Machine.{Machine}
 use Rattle.manual.specs.Micro.{Gives}
 use Rattle.cpu.specs.declared.Travelled.{Travelled}
 use Rattle.cpu.specs.Inner.Turning.{Calm, Fits, turning, settled}
-use Rattle.numbers.specs.Machines.{machineFrom, linesFrom}
+use Rattle.mos6502_numbers.specs.Machines.{machineFrom, linesFrom}
 use Rattle.mos6502.specs.Lemmas.Numbers.{turn-gives}
 use Rattle.mos6502.proofs.advance.Statement.{statement}
 use Rattle.mos6502.proofs.advance.Tie as tie

@@ -8,7 +8,7 @@ use denote.Ref.{now}
 use Rattle.manual.specs.declared.Lines.{Lines}
 use Rattle.cpu.specs.Inner.Turning.{Fits, reach, fitting, going}
 use Rattle.cpu.specs.Lemmas.Turning.{one-fits, fitting-fits}
-use Rattle.numbers.specs.Machines.{linesFrom}
+use Rattle.mos6502_numbers.specs.Machines.{linesFrom}
 use Rattle.mos6502.specs.Inner.Turns.{Turned}
 use Rattle.mos6502.proofs.one_turn.Statement.{statement}
 use Rattle.mos6502.proofs.one_turn.Tie as tie

@@ -4,7 +4,7 @@ use mathlib.Core.Path.{_≡_}
 use mathlib.Core.List.{List}
 use Rattle.manual.specs.Micro.{Micro, done, _>>=_, exec, Gives}
 use Rattle.manual.specs.Stepping.{runFull}
-use Rattle.numbers.specs.Machines.{machineFrom, linesFrom}
+use Rattle.mos6502_numbers.specs.Machines.{machineFrom, linesFrom}
 use Rattle.cpu.specs.Inner.Turning.{turning, settled}
 use Rattle.mos6502.specs.Numbers.{RunNumbers, runNumbers}
 

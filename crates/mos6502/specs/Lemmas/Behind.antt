@@ -19,9 +19,9 @@ use Rattle.manual.specs.Theorems.Answers.{NoRoom, NoOpcode}
 use Rattle.manual.specs.Theorems.RunAnswers.{Leads, Ends, all-made, no-cycle-room, not-an-opcode, RunTable, ran, memory-not-full, bound-too-high, LongTable, long-ran, long-not-full}
 use Rattle.manual.specs.Theorems.Spending.{CycleTable, ran as spent-ran, memory-not-full as cycles-not-full, limit-too-high, ends, spent, no-cycle-room as late-unspent, not-an-opcode as undefined-unspent}
 use Rattle.registers.specs.InRange.{InRange}
-use Rattle.numbers.specs.Packed.{packed, unpacked}
-use Rattle.numbers.specs.Lemmas.RoundTrip.{unpacked-packed, level-packed}
-use Rattle.numbers.specs.Machines.{machineFrom, registersAfter, cyclesAfter}
+use Rattle.mos6502_numbers.specs.Packed.{packed, unpacked}
+use Rattle.mos6502_numbers.specs.Lemmas.RoundTrip.{unpacked-packed, level-packed}
+use Rattle.mos6502_numbers.specs.Machines.{machineFrom, registersAfter, cyclesAfter}
 
 -- ---- the answer behind the numbers
 

@@ -12,8 +12,8 @@ use Rattle.manual.specs.declared.Reason.{Reason}
 use Rattle.manual.specs.Micro.{exec, Gives}
 use Rattle.manual.specs.Outcomes.{number, ended}
 use Rattle.manual.specs.Stepping.{fullMemory, highestBound, runFull, spendFull}
-use Rattle.cycles.specs.Lemmas.Budget.{Budget, unspent, spent, Pays, pays}
-use Rattle.numbers.specs.Machines.{machineFrom, linesFrom, registersAfter, cyclesAfter}
+use Rattle.cpu_cycles.specs.Lemmas.Budget.{Budget, unspent, spent, Pays, pays}
+use Rattle.mos6502_numbers.specs.Machines.{machineFrom, linesFrom, registersAfter, cyclesAfter}
 use Rattle.mos6502.specs.Numbers.{RunNumbers, runNumbers, runCyclesOnNumbers}
 use Rattle.mos6502.specs.Inner.Turns.{Ran}
 use Rattle.mos6502.specs.Lemmas.Numbers.{zero-made, other-refused, run-of, spend-gives}

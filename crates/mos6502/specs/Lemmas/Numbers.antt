@@ -6,7 +6,7 @@ use mathlib.Core.List.{List, []}
 use native.Mathlib.Omega.{arith}
 use borrow.Author.Tests.{lt-ltb, le-ltb}
 use lib.Dec.{ltb}
-use Rattle.numbers.specs.Packed.{packed}
+use Rattle.mos6502_numbers.specs.Packed.{packed}
 use Rattle.manual.specs.declared.Lines.{Lines}
 use Rattle.manual.specs.declared.Machine.{Machine}
 use Rattle.manual.specs.declared.Ended.{Ended}
@@ -25,7 +25,7 @@ use Rattle.cpu.specs.Inner.Travelling.{travelled, travelling}
 use Rattle.cpu.specs.Lemmas.Travelling.{travel-run}
 use Rattle.cpu.specs.Inner.Turning.{turning, settled}
 use Rattle.cpu.specs.Lemmas.Turning.{turned, one-step, turn-step}
-use Rattle.numbers.specs.Machines.{machineFrom, linesFrom, registersAfter, cyclesAfter}
+use Rattle.mos6502_numbers.specs.Machines.{machineFrom, linesFrom, registersAfter, cyclesAfter}
 use Rattle.mos6502.specs.Numbers.{StepNumbers, RunNumbers, runNumbers, stepOnNumbers, runOnNumbers, longRunOnNumbers, runCyclesOnNumbers}
 use Rattle.mos6502.specs.Inner.Turns.{runFullOnNumbers, turnOnNumbers}
 

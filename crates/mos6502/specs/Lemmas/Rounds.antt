@@ -18,7 +18,7 @@ use Rattle.manual.specs.Theorems.Lunch.{added}
 use Rattle.cpu.specs.declared.Travelled.{Travelled}
 use Rattle.cpu.specs.Inner.Turning.{Fits, going, turning, settled}
 use Rattle.cpu.specs.Lemmas.Turning.{going-fits, going-most, turn-few, turn-stops, turn-goes, added-none, added-twice}
-use Rattle.numbers.specs.Machines.{machineFrom, linesFrom, registersAfter, cyclesAfter}
+use Rattle.mos6502_numbers.specs.Machines.{machineFrom, linesFrom, registersAfter, cyclesAfter}
 use Rattle.mos6502.specs.Numbers.{RunNumbers, runNumbers}
 use Rattle.mos6502.specs.Inner.Turns.{turnOnNumbers, Ran}
 use Rattle.mos6502.specs.Lemmas.Numbers.{zero-made, other-refused, numberOf, countOf, onward, turn-of, run-gives}

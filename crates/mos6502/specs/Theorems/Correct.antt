@@ -22,7 +22,7 @@ use Rattle.manual.specs.Theorems.RunAnswers.{Leads}
 use Rattle.manual.specs.Theorems.Spending.{Before}
 use Rattle.manual.specs.Theorems.Sealed.{Differ, Unsealed, Kept}
 use Rattle.manual.specs.Theorems.Within.{Bytes}
-use Rattle.numbers.specs.Machines.{machineFrom, linesFrom}
+use Rattle.mos6502_numbers.specs.Machines.{machineFrom, linesFrom}
 use Rattle.mos6502.specs.Numbers.{StepNumbers, RunNumbers}
 use Rattle.mos6502.specs.Calls.{StepCall, RunCall, LongRunCall, CyclesCall}
 

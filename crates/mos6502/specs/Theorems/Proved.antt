@@ -25,7 +25,7 @@ use Rattle.manual.specs.Theorems.Sealed.{Differ, Unsealed, Kept, step-sealed, r
 use Rattle.manual.specs.Theorems.Within.{Bytes}
 use Rattle.manual.specs.Theorems.Ranges.{step-ranges, run-ranges, long-run-ranges, run-cycles-ranges}
 use Rattle.registers.specs.InRange.{InRange}
-use Rattle.numbers.specs.Machines.{machineFrom, linesFrom}
+use Rattle.mos6502_numbers.specs.Machines.{machineFrom, linesFrom}
 use Rattle.mos6502.specs.Numbers.{StepNumbers, RunNumbers, stepNumbers, runNumbers, stepOnNumbers, runOnNumbers, longRunOnNumbers, runCyclesOnNumbers}
 use Rattle.mos6502.specs.Lemmas.Behind.{Behind, behind, carried, number-refused, number-most, from-in-range, held, none-made, means, Told, run-told, long-run-told, cycles-told}
 use Rattle.mos6502.specs.Theorems.Correct.{StepAnswered, left, RunAnswered, Answered, StepEquals, RunEquals, Equal, OneResult, Apart, Correct}

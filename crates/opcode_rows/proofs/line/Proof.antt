@@ -3,8 +3,8 @@ use mathlib.Core.Path.{refl}
 use native.Mathlib.Omega.{arith}
 use lib.Dec.{lit≤}
 use Rattle.instruction.specs.Opcodes.{decoded, rows}
-use Rattle.meaning.specs.Inner.Operations.{operations, operationAt, modes, modeAt}
-use Rattle.rows.specs.Theorems.Rows.{row}
+use Rattle.opcode_numbers.specs.Inner.Operations.{operations, operationAt, modes, modeAt}
+use Rattle.opcode_effects.specs.Theorems.Rows.{row}
 use Rattle.opcode_rows.specs.Lemmas.Codes.{none-left}
 use Rattle.opcode_rows.proofs.line.Statement.{statement}
 use Rattle.opcode_rows.proofs.line.Tie as tie

@@ -7,9 +7,9 @@ use Rattle.laws.specs.Lemmas.LastArm.{NoneOf}
 use Rattle.registers.specs.declared.Registers.{Registers}
 use Rattle.instruction.specs.Opcodes.{decoded, rows}
 use Rattle.manual.specs.Micro.{Gives}
-use Rattle.rows.specs.declared.Dispatched.{Dispatched}
-use Rattle.rows.specs.Inner.Performing.{dispatched}
-use Rattle.rows.specs.Theorems.Rows.{left, no-row}
+use Rattle.opcode_effects.specs.declared.Dispatched.{Dispatched}
+use Rattle.opcode_effects.specs.Inner.Performing.{dispatched}
+use Rattle.opcode_effects.specs.Theorems.Rows.{left, no-row}
 
 abbrev codes : List ℕ
 codes =

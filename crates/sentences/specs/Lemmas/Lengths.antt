@@ -7,9 +7,9 @@ use Rattle.manual.specs.declared.Ended.{Ended}
 use Rattle.manual.specs.declared.Reason.{Reason}
 use Rattle.manual.specs.declared.Reason.the-variants.{Made, MemoryNotFull, NoCycleRoom, NotAnOpcode, BoundTooHigh}
 use Rattle.manual.specs.Outcomes.{number}
-use Rattle.text.specs.Numerals.{decimal}
-use Rattle.text.specs.Lemmas.Texts.{decimal-length}
-use Rattle.states.specs.Fields.{machineFields}
+use Rattle.text_writing.specs.Numerals.{decimal}
+use Rattle.text_writing.specs.Lemmas.Texts.{decimal-length}
+use Rattle.trace_fields.specs.Fields.{machineFields}
 use Rattle.sentences.specs.Line.{allFields}
 
 fields-length : (q : Ended)

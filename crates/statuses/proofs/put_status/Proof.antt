@@ -1,7 +1,7 @@
 -- One part after the other; a byte has at most three digits.
 use native.Mathlib.Omega.{arith}
 use lib.ListN.{length-append}
-use Rattle.text.specs.Lemmas.Texts.{then, decimal-length}
+use Rattle.text_writing.specs.Lemmas.Texts.{then, decimal-length}
 use borrow.Author.Needs.{needs}
 use Rattle.statuses.proofs.put_status.Statement.{statement}
 use Rattle.statuses.proofs.put_status.Tie as tie

@@ -8,7 +8,7 @@ use denote.Ref.{now}
 use lib.ListN.{length, take}
 use lib.Seq.{length-take-le}
 use Rattle.manual.specs.Lemmas.StepLaws.{step-whole}
-use Rattle.text.specs.Lemmas.Texts.{nothing, read-back}
+use Rattle.text_writing.specs.Lemmas.Texts.{nothing, read-back}
 use Rattle.listing.specs.Lines.{instructionAt}
 use Rattle.listing.specs.Lemmas.Lengths.{instruction-length}
 use Rattle.trace_steps.specs.Lemmas.Traces.{not-back, shown-made, shown-refused}

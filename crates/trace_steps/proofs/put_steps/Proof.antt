@@ -11,11 +11,11 @@ use Rattle.manual.specs.Outcomes.{isMade}
 use Rattle.manual.specs.Interrupts.{idle}
 use Rattle.manual.specs.Stepping.{fullMemory, runFull}
 use Rattle.manual.specs.Lemmas.StepLaws.{long-short, long-whole}
-use Rattle.text.specs.Written.{most}
-use Rattle.text.specs.Lemmas.Texts.{nothing}
-use Rattle.text.specs.Lemmas.Left.{Left, less-left, none-left}
-use Rattle.tracing.specs.Entries.{longest}
-use Rattle.tracing.specs.Lemmas.Findings.{one-longer, no-longer}
+use Rattle.text_writing.specs.Written.{most}
+use Rattle.text_writing.specs.Lemmas.Texts.{nothing}
+use Rattle.text_writing.specs.Lemmas.Left.{Left, less-left, none-left}
+use Rattle.trace_text.specs.Entries.{longest}
+use Rattle.trace_text.specs.Lemmas.Findings.{one-longer, no-longer}
 use Rattle.trace_steps.specs.Traces.{fullTrace}
 use Rattle.trace_steps.specs.Lemmas.Traces.{run-next, run-refused, next-entry, no-entry, no-steps, no-more-steps, on-full, not-on-full}
 use Rattle.trace_steps.proofs.put_steps.Statement.{statement}

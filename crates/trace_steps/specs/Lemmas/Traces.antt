@@ -17,8 +17,8 @@ use Rattle.manual.specs.Lemmas.Programs.{exec-then}
 use Rattle.manual.specs.Lemmas.StepLaws.{step-late, step-serves, step-undefined, step-defined}
 use Rattle.manual.specs.Theorems.Answers.{Way, late, serves, undefined, ready, way}
 use Rattle.listing.specs.Lines.{instructionAt}
-use Rattle.tracing.specs.declared.View.{View}
-use Rattle.tracing.specs.Entries.{entryText}
+use Rattle.trace_text.specs.declared.View.{View}
+use Rattle.trace_text.specs.Entries.{entryText}
 use Rattle.trace_steps.specs.Traces.{shown, fullTrace, trace}
 
 -- ---- a step

@@ -19,12 +19,12 @@ use Rattle.manual.specs.Lemmas.Programs.{exec-bind}
 use Rattle.manual.specs.Lemmas.StepLaws.{long-whole, step-late, step-undefined, was-refused}
 use Rattle.manual.specs.Theorems.Within.{Bytes}
 use Rattle.manual.specs.Theorems.RunAnswers.{Leads, Ends, all-made, no-cycle-room, not-an-opcode, run-ends}
-use Rattle.state_lines.specs.Lines.{Spellable, lineText}
-use Rattle.checking.specs.Checking.{checkedOf, checkedTrace}
-use Rattle.checking.specs.Logs.{logText}
-use Rattle.checking.specs.Theorems.Honest.{laterStates, honest-accepted}
-use Rattle.tracing.specs.declared.View.{View}
-use Rattle.tracing.specs.declared.View.the-variants.{States}
+use Rattle.trace_line.specs.Lines.{Spellable, lineText}
+use Rattle.trace_checking.specs.Checking.{checkedOf, checkedTrace}
+use Rattle.trace_checking.specs.Logs.{logText}
+use Rattle.trace_checking.specs.Theorems.Honest.{laterStates, honest-accepted}
+use Rattle.trace_text.specs.declared.View.{View}
+use Rattle.trace_text.specs.declared.View.the-variants.{States}
 use Rattle.trace_steps.specs.Traces.{shown, fullTrace, trace}
 use Rattle.trace_steps.specs.Lemmas.Traces.{on-full}
 

@@ -5,7 +5,7 @@ use native.Mathlib.Omega.{arith}
 use denote.Ref.{now}
 use lib.ListN.{length}
 use lib.Seq.{length-take-le}
-use Rattle.text.specs.Lemmas.Texts.{read-back}
+use Rattle.text_writing.specs.Lemmas.Texts.{read-back}
 use borrow.Author.Needs.{needs}
 use Rattle.console.proofs.inputs.read_two.Statement.{statement}
 use Rattle.console.proofs.inputs.read_two.Tie as tie

@@ -4,8 +4,8 @@ use mathlib.Core.Path.{_≡_, refl, sym, _∙_}
 use native.Mathlib.Omega.{arith}
 use denote.Ref.{now}
 use lib.ListN.{length, take, length-map}
-use Rattle.text.specs.Written.{Wrote}
-use Rattle.text.specs.Lemmas.Texts.{nothing, more, whole}
+use Rattle.text_writing.specs.Written.{Wrote}
+use Rattle.text_writing.specs.Lemmas.Texts.{nothing, more, whole}
 use Rattle.console.specs.Names.{printed, printedName}
 use Rattle.console.specs.Lemmas.Names.{printed-at}
 use borrow.Author.Needs.{needs}

@@ -1,7 +1,7 @@
 -- One field after the other.
 use native.Mathlib.Omega.{arith}
 use borrow.Author.Needs.{needs}
-use Rattle.text.specs.Lemmas.Texts.{then}
+use Rattle.text_writing.specs.Lemmas.Texts.{then}
 use Rattle.listing.proofs.line.put_instruction.Statement.{statement}
 use Rattle.listing.proofs.line.put_instruction.Tie as tie
 

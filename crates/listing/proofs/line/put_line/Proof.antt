@@ -1,6 +1,6 @@
 -- What stands there, and the end of the line.
 use native.Mathlib.Omega.{arith}
-use Rattle.text.specs.Lemmas.Texts.{then}
+use Rattle.text_writing.specs.Lemmas.Texts.{then}
 use Rattle.listing.proofs.line.put_line.Statement.{statement}
 use Rattle.listing.proofs.line.put_line.Tie as tie
 

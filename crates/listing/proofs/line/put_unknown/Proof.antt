@@ -1,6 +1,6 @@
 -- One field after the other.
 use native.Mathlib.Omega.{arith}
-use Rattle.text.specs.Lemmas.Texts.{then}
+use Rattle.text_writing.specs.Lemmas.Texts.{then}
 use Rattle.listing.proofs.line.put_unknown.Statement.{statement}
 use Rattle.listing.proofs.line.put_unknown.Tie as tie
 

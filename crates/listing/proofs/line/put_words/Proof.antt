@@ -2,7 +2,7 @@
 use mathlib.Core.Path.{sym, _∙_}
 use native.Mathlib.Omega.{arith}
 use denote.Ref.{now}
-use Rattle.text.specs.Lemmas.Texts.{then}
+use Rattle.text_writing.specs.Lemmas.Texts.{then}
 use Rattle.listing.specs.Lemmas.Lines.{words-undefined, words-defined}
 use Rattle.listing.proofs.line.put_words.Statement.{statement}
 use Rattle.listing.proofs.line.put_words.Tie as tie

@@ -4,8 +4,8 @@ use mathlib.Core.Path.{_≡_, refl}
 use native.Mathlib.Omega.{arith}
 use denote.Ref.{now}
 use lib.ListN.{length}
-use Rattle.text.specs.Written.{most}
-use Rattle.text.specs.Lemmas.Left.{Left, less-left, none-left}
+use Rattle.text_writing.specs.Written.{most}
+use Rattle.text_writing.specs.Lemmas.Left.{Left, less-left, none-left}
 use Rattle.listing.specs.Lines.{lines, texts}
 use Rattle.listing.specs.Lemmas.Lines.{next-line, cut-line, none-line}
 use Rattle.listing.proofs.lines.put_lines.Statement.{statement}

@@ -3,8 +3,8 @@ use Prim.Native.Nat.{_≤_, _-_}
 use mathlib.Core.Path.{_≡_, refl}
 use native.Mathlib.Omega.{arith}
 use lib.ListN.{length}
-use Rattle.text.specs.Written.{most}
-use Rattle.text.specs.Lemmas.Left.{Left, less-left, none-left}
+use Rattle.text_writing.specs.Written.{most}
+use Rattle.text_writing.specs.Lemmas.Left.{Left, less-left, none-left}
 use Rattle.listing.specs.Lines.{unknown, texts}
 use Rattle.listing.specs.Lemmas.Lines.{next-unknown, none-unknown}
 use Rattle.listing.proofs.lines.put_rest.Statement.{statement}

@@ -1,6 +1,6 @@
 -- One field after the other; none is longer than its number can be.
 use native.Mathlib.Omega.{arith}
-use Rattle.text.specs.Lemmas.Texts.{then}
+use Rattle.text_writing.specs.Lemmas.Texts.{then}
 use Rattle.sentences.specs.Line.{allFields}
 use Rattle.sentences.specs.Lemmas.Lengths.{fields-fit}
 use borrow.Author.Needs.{needs}

@@ -26,7 +26,7 @@ const KEPT: &str = "target/host/differs.img";
 /// on standard input, is not always of the same kind.
 const BATCH: usize = 500;
 /// Where the gate's images and lines are.
-const STORED: &str = "crates/report";
+const STORED: &str = "crates/program_report";
 
 enum Fault {
     Differs(String),
