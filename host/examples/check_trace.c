@@ -1,13 +1,13 @@
 /* check_trace IMAGE LOG: checks a log against an image, and says which line is the first bad one. The exit status is the
  * answer, 2 for wrong usage.
  *
- *     rt staticlib traces_c
- *     cc -I host/include host/examples/check_trace.c target/staticlib/libtraces_c.a -o target/check_trace
+ *     rt staticlib mos6502_traces
+ *     cc -I host/include host/examples/check_trace.c target/staticlib/libmos6502_traces.a -o target/check_trace
  *     target/check_trace crates/program_trace/stdin crates/program_trace/stdout
  */
 #include <stdio.h>
 
-#include "traces.h"
+#include "mos6502_traces.h"
 
 static uint8_t image[65537];
 static uint8_t copy[65536];
@@ -37,7 +37,7 @@ int main(int count, char **words)
         fprintf(stderr, "usage: check_trace IMAGE LOG, a log of less than a million characters\n");
         return 2;
     }
-    answer = trace_check(image, image_length, lines, lines_length, copy, sizeof copy, &line);
+    answer = mos6502_trace_check(image, image_length, lines, lines_length, copy, sizeof copy, &line);
     printf("%u %zu\n", answer, line);
     return answer;
 }

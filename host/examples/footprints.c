@@ -3,15 +3,15 @@
  * the last step: 0 where all were made.
  *
  *     rt staticlib mos6502
- *     rt staticlib step_c
- *     rt staticlib footprint_c
- *     cc -I host/include host/examples/footprints.c target/staticlib/libstep_c.a target/staticlib/libmos6502.a target/staticlib/libfootprint_c.a -o target/footprints
+ *     rt staticlib mos6502_step
+ *     rt staticlib mos6502_footprint
+ *     cc -I host/include host/examples/footprints.c target/staticlib/libmos6502_step.a target/staticlib/libmos6502.a target/staticlib/libmos6502_footprint.a -o target/footprints
  *     target/footprints 4 crates/program_sealed/data/letter.img
  */
 #include <stdio.h>
 #include <stdlib.h>
 
-#include "footprint.h"
+#include "mos6502_footprint.h"
 #include "mos6502.h"
 
 enum { SIZE = 65536 };

@@ -1,13 +1,13 @@
 /* load_tape TAPE: reads a paper tape onto zeros and says what was found. The exit status is the answer, 2 for wrong usage.
  *
- *     rt staticlib tapes_c
- *     cc -I host/include host/examples/load_tape.c target/staticlib/libtapes_c.a -o target/load_tape
+ *     rt staticlib mos6502_tapes
+ *     cc -I host/include host/examples/load_tape.c target/staticlib/libmos6502_tapes.a -o target/load_tape
  *     target/load_tape crates/program_load/stdin
  */
 #include <inttypes.h>
 #include <stdio.h>
 
-#include "tapes.h"
+#include "mos6502_tapes.h"
 
 static uint8_t text[1 << 20];
 static uint8_t memory[65536];
@@ -25,7 +25,7 @@ int main(int count, char **words)
         return 2;
     }
     fclose(tape);
-    answer = tape_load(text, length, memory, sizeof memory, &good, &place);
+    answer = mos6502_tape_load(text, length, memory, sizeof memory, &good, &place);
     printf("%u %" PRIu64 " %zu\n", answer, good, place);
     return answer;
 }

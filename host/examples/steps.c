@@ -3,8 +3,8 @@
  * the answer of the last step: 0 where all were made.
  *
  *     rt staticlib mos6502
- *     rt staticlib step_c
- *     cc -I host/include host/examples/steps.c target/staticlib/libstep_c.a target/staticlib/libmos6502.a -o target/steps
+ *     rt staticlib mos6502_step
+ *     cc -I host/include host/examples/steps.c target/staticlib/libmos6502_step.a target/staticlib/libmos6502.a -o target/steps
  *     target/steps 20 crates/program_report/data/for-ever.img
  */
 #include <inttypes.h>

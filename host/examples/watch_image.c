@@ -2,15 +2,15 @@
  * answer and the steps made; where it was halted, also the counter and the sealed address that it would have read. The exit
  * status is the answer, 64 for wrong usage.
  *
- *     rt staticlib watch_c
- *     cc -I host/include host/examples/watch_image.c target/staticlib/libwatch_c.a -o target/watch_image
+ *     rt staticlib mos6502_watch
+ *     cc -I host/include host/examples/watch_image.c target/staticlib/libmos6502_watch.a -o target/watch_image
  *     target/watch_image 0400 04FF 2000 crates/program_sealed/data/letter.img
  */
 #include <stdio.h>
 #include <stdlib.h>
 
 #include "mos6502.h"
-#include "watch.h"
+#include "mos6502_watch.h"
 
 enum { SIZE = 65536, STACK = 24, STATUS = 32, COUNTER = 40 };
 

@@ -1,5 +1,5 @@
 /* The proved core on numbers, for a host in C or C++: link target/staticlib/libmos6502.a, which `rt staticlib mos6502`
- * writes for x86-64, and for mos6502_step also libstep_c.a, by `rt staticlib step_c`.
+ * writes for x86-64, and for mos6502_step also libmos6502_step.a, by `rt staticlib mos6502_step`.
  *
  * The registers are one number: A, X, Y, S and the status byte, a byte each from bit 0 on, the counter in bits 40 to 55, and in
  * bit 56 the last level of NMI, which is the one at the last step made: set if it was low. A number without that bit says

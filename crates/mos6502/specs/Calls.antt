@@ -1,4 +1,4 @@
--- What a call of each C function that makes steps promises, as src/lib.rt and that of step_c say it. `registers`, `cycles`, the bound or limit, `lines` and the
+-- What a call of each C function that makes steps promises, as src/lib.rt and that of mos6502_step say it. `registers`, `cycles`, the bound or limit, `lines` and the
 -- memory `m` are what it is given; `v` is what comes back in its result and in the numbers that it was lent, and `m′` the memory that it leaves.
 use Prim.Native.Nat.{ℕ}
 use mathlib.Core.List.{List}

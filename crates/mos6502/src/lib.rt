@@ -1,4 +1,4 @@
-// The core on numbers, for a host in C or Rust: see host/include/mos6502.h. A step by itself is in `step_c`.
+// The core on numbers, for a host in C or Rust: see host/include/mos6502.h. A step by itself is in `mos6502_step`.
 ghost use mathlib.Core.Path.{_≡_};
 ghost use mathlib.Core.Bool.{true};
 ghost use Prim.Native.Nat.{_<_};

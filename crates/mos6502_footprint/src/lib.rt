@@ -1,4 +1,4 @@
-// What a step will read and store to, on numbers, for a host in C or Rust: see host/include/footprint.h.
+// What a step will read and store to, on numbers, for a host in C or Rust: see host/include/mos6502_footprint.h.
 ghost use mathlib.Core.Path.{_≡_};
 ghost use lib.ListN.{length};
 ghost use Rattle.manual.specs.ReadList.{listedStep};

@@ -1,4 +1,4 @@
-// The tapes and Intel HEX, for a host in C or Rust: see host/include/tapes.h.
+// The tapes and Intel HEX, for a host in C or Rust: see host/include/mos6502_tapes.h.
 ghost use mathlib.Core.Path.{_≡_};
 ghost use Rattle.tape_paper.specs.Tapes.{readTape};
 ghost use Rattle.tape_intel.specs.IntelHex.{readHex};
@@ -8,7 +8,12 @@ ghost use Rattle.tape_rescuing.specs.Rescuing.{rescued};
 
 // Reads a tape onto a memory.
 #[no_mangle]
-pub extern "C" fn tape_load(text: &[u8], memory: &mut [u8], good: &mut u64, place: &mut usize) -> u8
+pub extern "C" fn mos6502_tape_load(
+    text: &[u8],
+    memory: &mut [u8],
+    good: &mut u64,
+    place: &mut usize,
+) -> u8
     ensures { λ r.
         ⌜ record { answer = r; good = now (good .exit); place = now (place .exit); memory = now (memory .exit) }
         ≡ readTape (now (text .entry)) (now (memory .entry)) ⌝ }
@@ -21,7 +26,12 @@ pub extern "C" fn tape_load(text: &[u8], memory: &mut [u8], good: &mut u64, plac
 
 // Reads Intel HEX onto a memory.
 #[no_mangle]
-pub extern "C" fn hex_load(text: &[u8], memory: &mut [u8], good: &mut u64, place: &mut usize) -> u8
+pub extern "C" fn mos6502_hex_load(
+    text: &[u8],
+    memory: &mut [u8],
+    good: &mut u64,
+    place: &mut usize,
+) -> u8
     ensures { λ r.
         ⌜ record { answer = r; good = now (good .exit); place = now (place .exit); memory = now (memory .exit) }
         ≡ readHex (now (text .entry)) (now (memory .entry)) ⌝ }
@@ -34,7 +44,7 @@ pub extern "C" fn hex_load(text: &[u8], memory: &mut [u8], good: &mut u64, place
 
 // Moves a tape to Intel HEX.
 #[no_mangle]
-pub extern "C" fn tape_to_hex(
+pub extern "C" fn mos6502_tape_to_hex(
     text: &[u8],
     out: &mut [u8],
     size: &mut usize,
@@ -60,7 +70,7 @@ pub extern "C" fn tape_to_hex(
 
 // Moves Intel HEX to a tape.
 #[no_mangle]
-pub extern "C" fn hex_to_tape(
+pub extern "C" fn mos6502_hex_to_tape(
     text: &[u8],
     out: &mut [u8],
     size: &mut usize,
@@ -86,7 +96,7 @@ pub extern "C" fn hex_to_tape(
 
 // Punches a stretch of memory.
 #[no_mangle]
-pub extern "C" fn tape_punch(
+pub extern "C" fn mos6502_tape_punch(
     memory: &[u8],
     first: u16,
     last: u16,
@@ -104,7 +114,7 @@ pub extern "C" fn tape_punch(
 
 // Saves what is good of a torn tape.
 #[no_mangle]
-pub extern "C" fn tape_rescue(
+pub extern "C" fn mos6502_tape_rescue(
     text: &[u8],
     out: &mut [u8],
     size: &mut usize,

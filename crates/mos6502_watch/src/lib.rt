@@ -1,4 +1,4 @@
-// The watched run on numbers, for a host in C or Rust: see host/include/watch.h. It is an archive of its own, so that its loop is
+// The watched run on numbers, for a host in C or Rust: see host/include/mos6502_watch.h. It is an archive of its own, so that its loop is
 // the only caller of the footprints in it: what has one caller is put into it.
 ghost use mathlib.Core.Path.{_≡_};
 ghost use Rattle.watch.specs.Guarded.{inPages, inStretch};

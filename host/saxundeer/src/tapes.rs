@@ -1,5 +1,5 @@
 //! Paper tapes and Intel HEX, proved: read onto a memory, moved from one to the other, punched from a memory, and what can be
-//! saved of a torn tape. tapes.h says what each of the C functions promises.
+//! saved of a torn tape. mos6502_tapes.h says what each of the C functions promises.
 //!
 //! ```
 //! use saxundeer::{MEMORY_SIZE, tapes};
@@ -21,7 +21,7 @@ type MoveFunction =
     unsafe extern "C" fn(*const u8, usize, *mut u8, usize, *mut usize, *mut u64, *mut usize) -> u8;
 
 unsafe extern "C" {
-    fn tape_load(
+    fn mos6502_tape_load(
         text: *const u8,
         text_length: usize,
         memory: *mut u8,
@@ -29,7 +29,7 @@ unsafe extern "C" {
         good: *mut u64,
         place: *mut usize,
     ) -> u8;
-    fn hex_load(
+    fn mos6502_hex_load(
         text: *const u8,
         text_length: usize,
         memory: *mut u8,
@@ -37,7 +37,7 @@ unsafe extern "C" {
         good: *mut u64,
         place: *mut usize,
     ) -> u8;
-    #[link_name = "tape_to_hex"]
+    #[link_name = "mos6502_tape_to_hex"]
     fn move_to_hex(
         text: *const u8,
         text_length: usize,
@@ -47,7 +47,7 @@ unsafe extern "C" {
         good: *mut u64,
         place: *mut usize,
     ) -> u8;
-    #[link_name = "hex_to_tape"]
+    #[link_name = "mos6502_hex_to_tape"]
     fn move_to_tape(
         text: *const u8,
         text_length: usize,
@@ -57,7 +57,7 @@ unsafe extern "C" {
         good: *mut u64,
         place: *mut usize,
     ) -> u8;
-    fn tape_punch(
+    fn mos6502_tape_punch(
         memory: *const u8,
         memory_length: usize,
         first: u16,
@@ -66,7 +66,7 @@ unsafe extern "C" {
         text_length: usize,
         size: *mut usize,
     ) -> u8;
-    fn tape_rescue(
+    fn mos6502_tape_rescue(
         text: *const u8,
         text_length: usize,
         out: *mut u8,
@@ -135,12 +135,12 @@ fn read(function: ReadFunction, text: &[u8], memory: &mut [u8]) -> Result<u64, B
 
 /// Reads a tape onto a memory, and gives the number of its records, the end record counted.
 pub fn load(text: &[u8], memory: &mut [u8]) -> Result<u64, Bad> {
-    read(tape_load, text, memory)
+    read(mos6502_tape_load, text, memory)
 }
 
 /// Reads Intel HEX onto a memory, and gives the number of its records, the end record counted.
 pub fn load_hex(text: &[u8], memory: &mut [u8]) -> Result<u64, Bad> {
-    read(hex_load, text, memory)
+    read(mos6502_hex_load, text, memory)
 }
 
 /// Why a text was not moved. Nothing was written.
@@ -201,7 +201,7 @@ pub fn punch(memory: &[u8], first: u16, last: u16, text: &mut [u8]) -> Result<us
     let mut size = 0;
     // Sound: as in `read`.
     let answer = unsafe {
-        tape_punch(
+        mos6502_tape_punch(
             memory.as_ptr(),
             memory.len(),
             first,
@@ -246,7 +246,7 @@ pub fn rescue(text: &[u8], out: &mut [u8]) -> Result<Saved, Unsaved> {
     let (mut size, mut kept, mut dropped, mut first_dropped) = (0, 0, 0, 0);
     // Sound: as in `read`.
     let answer = unsafe {
-        tape_rescue(
+        mos6502_tape_rescue(
             text.as_ptr(),
             text.len(),
             out.as_mut_ptr(),

@@ -1,4 +1,4 @@
-//! The check of a recorded trace, proved. traces.h says what the C function promises.
+//! The check of a recorded trace, proved. mos6502_traces.h says what the C function promises.
 //!
 //! ```
 //! use saxundeer::{MEMORY_SIZE, traces};
@@ -11,7 +11,7 @@
 //! ```
 
 unsafe extern "C" {
-    fn trace_check(
+    fn mos6502_trace_check(
         image: *const u8,
         image_length: usize,
         lines: *const u8,
@@ -38,7 +38,7 @@ pub fn check(image: &[u8], lines: &[u8], copy: &mut [u8]) -> Result<(), Bad> {
     let mut line = 0;
     // Sound: the number is this function's own, the slices are lent to it, and the lengths are theirs.
     let answer = unsafe {
-        trace_check(
+        mos6502_trace_check(
             image.as_ptr(),
             image.len(),
             lines.as_ptr(),

@@ -1,5 +1,5 @@
-//! A run that is halted before it would read a sealed byte, and what a step will read and store to, before it is made. watch.h
-//! and footprint.h say what the C functions promise.
+//! A run that is halted before it would read a sealed byte, and what a step will read and store to, before it is made. mos6502_watch.h
+//! and mos6502_footprint.h say what the C functions promise.
 //!
 //! ```
 //! use saxundeer::watch::{Watched, watched_stretch};

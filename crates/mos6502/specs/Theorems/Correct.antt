@@ -1,7 +1,7 @@
 -- The three demands of the request (docs/RULES.md), of the C functions themselves: `mos6502_step`, `mos6502_run`, `mos6502_long_run` and
 -- `mos6502_run_cycles`. This file says what holds of them, and nothing else. The theorem is `correct` (Proved.antt): all of it holds.
 --
--- Each function promises a call: `RunCall`, `LongRunCall` and `CyclesCall` stand in src/lib.rt as they stand here, and `StepCall` in step_c. A call is given
+-- Each function promises a call: `RunCall`, `LongRunCall` and `CyclesCall` stand in src/lib.rt as they stand here, and `StepCall` in mos6502_step. A call is given
 -- two numbers, the registers and the cycle count, the levels of the lines, and a memory m. `v` is what comes back in its result and in the
 -- numbers that it was lent, and `m′` is the memory that it leaves. `step`, `run`, `longRun` and `runCycles` are the definition's (Stepping).
 use Prim.Native.Nat.{ℕ, _+_, _≤_}

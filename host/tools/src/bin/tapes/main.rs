@@ -1,5 +1,5 @@
-//! Compares the tapes and Intel HEX with srecord: what srec_cat writes is read by `tape_load` and `hex_load`, and what
-//! `tape_punch`, `tape_to_hex` and `hex_to_tape` write by srec_cat.
+//! Compares the tapes and Intel HEX with srecord: what srec_cat writes is read by `mos6502_tape_load` and `mos6502_hex_load`, and what
+//! `mos6502_tape_punch`, `mos6502_tape_to_hex` and `mos6502_hex_to_tape` write by srec_cat.
 
 mod comparison;
 mod fault;

@@ -1,5 +1,5 @@
-/* What a step will read and store to, before it is made, proved, for a host in C or C++: link target/staticlib/libfootprint_c.a,
- * which `rt staticlib footprint_c` writes for x86-64. It stands by itself; beside libmos6502.a it shares no symbol with it.
+/* What a step will read and store to, before it is made, proved, for a host in C or C++: link target/staticlib/libmos6502_footprint.a,
+ * which `rt staticlib mos6502_footprint` writes for x86-64. It stands by itself; beside libmos6502.a it shares no symbol with it.
  *
  * The registers are the number of mos6502.h, and so are the levels of the lines. The places and the `length` bytes of memory must
  * not overlap, and nobody else may write to them meanwhile.

@@ -1,5 +1,5 @@
-/* The check of a recorded trace, proved, for a host in C or C++: link target/staticlib/libtraces_c.a, which
- * `rt staticlib traces_c` writes for x86-64.
+/* The check of a recorded trace, proved, for a host in C or C++: link target/staticlib/libmos6502_traces.a, which
+ * `rt staticlib mos6502_traces` writes for x86-64.
  *
  * The texts, the memories and the number must not overlap, and nobody else may use them meanwhile.
  */
@@ -22,7 +22,7 @@ extern "C" {
  *  12  it is not the state after a step from the entry before, or no step can be made there
  *   0  there is an entry, and every later one follows
  * *line is the number of the first bad entry, counted from 1, and 0 with the answers 0 and 1. A log of one entry is accepted. */
-uint8_t trace_check(const uint8_t *image, size_t image_length, const uint8_t *lines, size_t lines_length, uint8_t *copy,
+uint8_t mos6502_trace_check(const uint8_t *image, size_t image_length, const uint8_t *lines, size_t lines_length, uint8_t *copy,
                     size_t copy_length, size_t *line);
 
 #ifdef __cplusplus

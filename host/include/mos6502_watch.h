@@ -1,4 +1,4 @@
-/* The watched run, proved, for a host in C or C++: link target/staticlib/libwatch_c.a, which `rt staticlib watch_c` writes for
+/* The watched run, proved, for a host in C or C++: link target/staticlib/libmos6502_watch.a, which `rt staticlib mos6502_watch` writes for
  * x86-64. It stands by itself; beside libmos6502.a it shares no symbol with it.
  *
  * The registers are the number of mos6502.h, which also has the functions that make it and take it apart, and the levels of the
