@@ -1,4 +1,4 @@
--- Laws of Failing.antt.
+-- A failure that was noted stays: the cell goes on holding the first one.
 use Prim.Native.Nat.{ℕ}
 use mathlib.Core.Path.{_≡_, refl, sym, _∙_}
 use mathlib.Core.Bool.{Bool, true, false, cond}

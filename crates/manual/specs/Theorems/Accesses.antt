@@ -1,4 +1,5 @@
--- Laws of Aims.antt.
+-- What a step reads and stores to, in one list and in order: the rules' reads (ReadList), then the stores (StoreList). Only two instructions read
+-- after they have pushed: BRK its vector, as a served line does, and JSR the high byte of its operand.
 use Prim.Native.Nat.{ℕ, _+_}
 use mathlib.Core.Path.{_≡_, refl, ap, ap₂, _∙_}
 use mathlib.Core.Bool.{Bool, true, not, cond, _&&_, _||_}

@@ -1,4 +1,4 @@
--- Laws of Stored.antt.
+-- The stores of a step are those of its list (StoreList), exactly and in order; at most three.
 use Prim.Native.Nat.{ℕ, _≤_}
 use mathlib.Core.Path.{_≡_, refl, ap, _∙_}
 use mathlib.Core.List.{List}

@@ -1,4 +1,4 @@
--- Laws of Arrays.antt.
+-- The three arrays of numbers are the opcode table, all 256 rows of it.
 use Prim.Native.Nat.{ℕ, _<_, _≤_}
 use mathlib.Core.List.{List}
 use mathlib.Core.Path.{_≡_}

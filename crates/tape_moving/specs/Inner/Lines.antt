@@ -1,4 +1,4 @@
--- The records as they are written, in either format, and the laws of their texts.
+-- The records as they are written, in either format.
 use Prim.Native.Nat.{ℕ, _+_, _-_, _/_, _%_}
 use mathlib.Core.List.{List, [], _++_}
 use Rattle.laws.specs.Characters.{characters}

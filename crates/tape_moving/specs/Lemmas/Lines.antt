@@ -1,4 +1,4 @@
--- Laws of Lines.antt.
+-- Laws of the records as they are written: their parts and their lengths.
 use Prim.Native.Nat.{ℕ, _+_, _-_, _*_, _/_, _%_, _<_, _≤_}
 use mathlib.Core.Path.{_≡_, refl, ap, _∙_}
 use mathlib.Core.List.{List, [], _∷_, _++_}

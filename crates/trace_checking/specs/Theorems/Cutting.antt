@@ -1,4 +1,4 @@
--- Laws of Cutting.antt.
+-- What stands before the cut of a text is whole entries, and what stands after it has no LF.
 use Prim.Native.Nat.{ℕ, zero, suc, _-_, _<_, _≤_}
 use mathlib.Core.Path.{_≡_, refl, ap, sym, _∙_}
 use mathlib.Core.Logic.{inl, inr}

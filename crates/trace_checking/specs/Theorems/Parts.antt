@@ -1,4 +1,4 @@
--- Laws of Parts.antt.
+-- Two parts of a trace, checked one after the other, are checked as they are as one.
 use Prim.Native.Nat.{ℕ, zero, suc, _+_, _-_, _<_, _≤_}
 use mathlib.Core.Path.{_≡_, refl, ap, sym, _∙_}
 use mathlib.Core.Logic.{_⊎_, inl, inr}
