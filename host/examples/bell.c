@@ -41,14 +41,14 @@ int main(int count, char **words)
     memcpy(memory + 0xFFFA, vectors, sizeof vectors);
     registers = mos6502_registers(0, 0, 0, 0xFF, 0x04, 0x0200);
 
-    for (unsigned long ring = 0; ring < rings && answer == 0; ring++) {
+    for (unsigned long ring = 0; ring < rings && answer == MOS6502_NOT_REFUSED; ring++) {
         answer = part(100, MOS6502_IDLE);
         /* Whoever rings holds the line low until it is answered. Held longer, it would be served again after RTI. */
-        while (answer == 0 && memory[COUNT] == ring)
+        while (answer == MOS6502_NOT_REFUSED && memory[COUNT] == ring)
             answer = part(1, MOS6502_IRQ_LOW);
     }
-    if (answer == 0)
+    if (answer == MOS6502_NOT_REFUSED)
         answer = part(100, MOS6502_NMI_LOW);
     printf("%u\n", memory[COUNT]);
-    return answer == 3 && mos6502_counter(registers) == STOP ? 0 : 1;
+    return answer == MOS6502_NOT_AN_OPCODE && mos6502_counter(registers) == STOP ? 0 : 1;
 }

@@ -51,7 +51,7 @@ int main(int count, char **words)
     uint64_t registers = mos6502_registers(0, 0, 0, 0xFF, 0x04, (uint16_t)(memory[0xFFFC] | memory[0xFFFD] << 8));
     uint64_t cycles = 0, left = strtoull(words[1], NULL, 10);
     uint8_t answer = 0;
-    for (; left > 0 && answer == 0; left--)
+    for (; left > 0 && answer == MOS6502_NOT_REFUSED; left--)
         answer = step(&registers, &cycles, memory, length);
     if (fflush(stdout) != 0) {
         perror("standard output");

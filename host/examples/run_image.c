@@ -27,14 +27,14 @@ static struct run start(const uint8_t *memory)
     return run;
 }
 
-/* 0 means that all the steps were made: it was still running, and that is no success. */
+/* If nothing was refused all the steps were made: it was still running, and that is no success. */
 static int status_of(struct run run, unsigned long stop)
 {
     switch (run.answer) {
-    case 0:
+    case MOS6502_NOT_REFUSED:
         return 20;
-    case 3:
-        return mos6502_counter(run.registers) == stop ? 0 : 3;
+    case MOS6502_NOT_AN_OPCODE:
+        return mos6502_counter(run.registers) == stop ? 0 : run.answer;
     default:
         return run.answer;
     }
@@ -69,7 +69,7 @@ int main(int count, char **words)
     struct run run = start(memory);
     run.answer = mos6502_long_run(&run.registers, &run.cycles, &run.steps, strtoull(words[2], NULL, 10), MOS6502_IDLE,
                                   memory, length);
-    int printed = run.answer == 1 ? printf("1\n") : print_line(run);
+    int printed = run.answer == MOS6502_MEMORY_NOT_FULL ? printf("1\n") : print_line(run);
     if (printed < 0 || fflush(stdout) != 0) {
         perror("standard output");
         return 74;

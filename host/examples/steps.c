@@ -21,7 +21,7 @@ static uint8_t step(uint64_t *registers, uint64_t *cycles, uint8_t *memory, size
     uint16_t counter = mos6502_counter(*registers), first;
     uint64_t before = *cycles;
     uint8_t answer = mos6502_step(registers, cycles, MOS6502_IDLE, &first, memory, length);
-    if (answer == 0)
+    if (answer == MOS6502_NOT_REFUSED)
         printf("%04X %" PRIu64 " %04X\n", counter, *cycles - before, first);
     return answer;
 }
@@ -43,7 +43,7 @@ int main(int count, char **words)
     uint64_t registers = mos6502_registers(0, 0, 0, 0xFF, 0x04, (uint16_t)(memory[0xFFFC] | memory[0xFFFD] << 8));
     uint64_t cycles = 0, left = strtoull(words[1], NULL, 10);
     uint8_t answer = 0;
-    for (; left > 0 && answer == 0; left--)
+    for (; left > 0 && answer == MOS6502_NOT_REFUSED; left--)
         answer = step(&registers, &cycles, memory, length);
     if (fflush(stdout) != 0) {
         perror("standard output");

@@ -14,6 +14,8 @@
 #include <stddef.h>
 #include <stdint.h>
 
+#include "mos6502_answers.h"
+
 #ifdef __cplusplus
 extern "C" {
 #endif

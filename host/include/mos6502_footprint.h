@@ -4,8 +4,8 @@
  * The registers are the number of mos6502.h, and so are the levels of the lines. The places and the `length` bytes of memory must
  * not overlap, and nobody else may write to them meanwhile.
  */
-#ifndef FOOTPRINT_H
-#define FOOTPRINT_H
+#ifndef MOS6502_FOOTPRINT_H
+#define MOS6502_FOOTPRINT_H
 
 #include <stddef.h>
 #include <stdint.h>

@@ -4,11 +4,13 @@
  * In each call the texts, the memory and the numbers must not overlap, and nobody else may use them meanwhile. Every number
  * that is lent is written.
  */
-#ifndef TAPES_H
-#define TAPES_H
+#ifndef MOS6502_TAPES_H
+#define MOS6502_TAPES_H
 
 #include <stddef.h>
 #include <stdint.h>
+
+#include "mos6502_answers.h"
 
 #ifdef __cplusplus
 extern "C" {

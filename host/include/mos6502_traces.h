@@ -3,11 +3,13 @@
  *
  * The texts, the memories and the number must not overlap, and nobody else may use them meanwhile.
  */
-#ifndef TRACES_H
-#define TRACES_H
+#ifndef MOS6502_TRACES_H
+#define MOS6502_TRACES_H
 
 #include <stddef.h>
 #include <stdint.h>
+
+#include "mos6502_answers.h"
 
 #ifdef __cplusplus
 extern "C" {

@@ -5,18 +5,17 @@
  * lines. The numbers, the place, the map and the `length` bytes of memory must not overlap, and nobody else may use them
  * meanwhile.
  */
-#ifndef WATCH_H
-#define WATCH_H
+#ifndef MOS6502_WATCH_H
+#define MOS6502_WATCH_H
 
 #include <stddef.h>
 #include <stdint.h>
 
+#include "mos6502_answers.h"
+
 #ifdef __cplusplus
 extern "C" {
 #endif
-
-/* What a watched run answers if it was halted. */
-enum { MOS6502_HALTED = 13 };
 
 /* At most `bound` steps, as mos6502_run makes them, with some of the memory sealed. Before each step it looks at the bytes that the
  * step would read; if one is sealed it is halted, and the step is not made. `pages` has 256 bytes, one for each page of the

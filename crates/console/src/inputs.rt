@@ -13,6 +13,12 @@ use statuses::FAILED;
 use statuses::NOT_OPENED;
 use text_writing::put_text;
 
+// How much of an input was read, and the status of what was done with it.
+pub struct Done {
+    pub size: usize,
+    pub status: u8,
+}
+
 // Opens a file, which sentences call `shown`. If it cannot be opened 66 is noted, and the answer is below 0.
 fn open_file(name: &[u8], shown: &[u8], failed: &mut u8) -> i32
     ensures { λ r. ⌜ FailureStays (now (failed .entry)) (now (failed .exit)) ⌝ }

@@ -7,10 +7,15 @@ mod names; // names.rt: the name of a file, as it is printed
 mod outputs; // outputs.rt: text that is written, the status
 mod progress; // progress.rt: how far a long piece of work is, at a terminal
 
+pub use arguments::Asked;
+pub use arguments::Names;
 pub use arguments::address_argument;
 pub use arguments::argument_is;
 pub use arguments::count_argument;
+pub use arguments::image_and_after;
 pub use arguments::names_from;
+pub use arguments::steps_and_stop;
+pub use inputs::Done;
 pub use inputs::close_input;
 pub use inputs::open_input;
 pub use inputs::read_input;

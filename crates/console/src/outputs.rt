@@ -5,6 +5,7 @@ ghost use Rattle.console.specs.Failing.{FailureStays};
 use libc::STDERR_FILENO;
 use libc::STDOUT_FILENO;
 use statuses::FAILED;
+use statuses::LONGEST_STATUS;
 use statuses::WRONG_USAGE;
 use statuses::first_of;
 use statuses::put_status;
@@ -50,9 +51,17 @@ pub fn refuse(sentence: &[u8]) -> u8
     WRONG_USAGE
 }
 
+// The same, with the program's name before it.
+pub(crate) fn refuse_for(program: &[u8], sentence: &[u8]) -> u8
+    ensures { λ r. ⌜ r ≡ 64 ⌝ }
+{
+    io::write_all(STDERR_FILENO, program);
+    refuse(sentence)
+}
+
 // The last thing that a program does. It may have been started by hand, without that descriptor: then nobody waits.
 pub fn hand_over(status: u8) {
-    let mut text = [0u8; 16];
+    let mut text = [0u8; LONGEST_STATUS];
     let size = put_status(&mut text, 0, status);
     io::write_all(STATUS_FILENO, &text[..size]);
 }

@@ -4,6 +4,7 @@ ghost use Rattle.statuses.specs.Statuses.{endStatus};
 ghost use Rattle.console.specs.Failing.{FailureStays};
 use console::say_of;
 use manual::Ended;
+use sentences::LONGEST_SENTENCE;
 use sentences::put_refused;
 use sentences::put_sentence;
 use statuses::Goal;
@@ -15,8 +16,7 @@ pub fn say_ending(index: usize, goal: Goal, ended: Ended, image: &[u8], failed: 
     ensures { λ r. ⌜ r ≡ endStatus goal ended ⌝ }
     ensures { λ r. ⌜ FailureStays (now (failed .entry)) (now (failed .exit)) ⌝ }
 {
-    // 80 is the most that a sentence can have: see `put_sentence`.
-    let mut text = [0u8; 80];
+    let mut text = [0u8; LONGEST_SENTENCE];
     let size = put_sentence(&mut text, 0, goal, ended, image);
     say_of(index, &text[..size], failed);
     end_status(goal, ended)
@@ -26,7 +26,7 @@ pub fn say_ending(index: usize, goal: Goal, ended: Ended, image: &[u8], failed: 
 pub fn say_refused(index: usize, image: &[u8], failed: &mut u8)
     ensures { λ r. ⌜ FailureStays (now (failed .entry)) (now (failed .exit)) ⌝ }
 {
-    let mut text = [0u8; 80];
+    let mut text = [0u8; LONGEST_SENTENCE];
     let size = put_refused(&mut text, 0, image);
     say_of(index, &text[..size], failed);
 }

@@ -1,12 +1,16 @@
 // A file that is written whole and at once, or not at all: one beside it is written, reaches the disk and takes its name. A
 // symbolic link is followed, a file that is there keeps its mode, and sentences name the file as it was typed.
+ghost use Prim.Native.Nat.{_≤_};
 ghost use mathlib.Core.Path.{_≡_};
+ghost use lib.ListN.{length, take};
 ghost use Rattle.io.specs.Counts.{Counts};
 ghost use Rattle.statuses.specs.Statuses.{firstOf};
 ghost use Rattle.console.specs.Failing.{FailureStays};
+use console::Names;
 use console::argument_is;
 use console::note_failure;
 use console::put_name;
+use console::read_two;
 use console::say_of;
 use libc::EINVAL;
 use libc::ENOENT;
@@ -177,10 +181,24 @@ fn replace_by(part: &[u8], name: &[u8], shown: &[u8], bytes: &[u8], failed: &mut
     os::unlink(part);
 }
 
-// Writes the file that an argument names, or leaves what is there and says why. Nothing may have failed before, and the
-// status of the work is 0: no other is kept.
-pub fn replace(index: usize, status: u8, bytes: &[u8], failed: &mut u8)
-    requires { ⌜ status ≡ 0 ⌝ }
+// Reads an image into two buffers, and tests AFTER before anything is run.
+pub fn read_and_test(names: Names, input: &mut [u8], copy: &mut [u8], failed: &mut u8) -> usize
+    requires { ⌜ length (now input) ≤ length (now copy) ⌝ }
+    ensures { λ r. ⌜ Counts r (now (input .exit)) ⌝ }
+    ensures { λ r. ⌜ take r (now (copy .exit)) ≡ take r (now (input .exit)) ⌝ }
+    ensures { λ r. ⌜ Counts r (now (copy .exit)) ⌝ }
+    ensures { λ r. ⌜ FailureStays (now (failed .entry)) (now (failed .exit)) ⌝ }
+{
+    let size = read_two(names.image, input, copy, failed);
+    if *failed != 0 {
+        return size;
+    }
+    can_replace(names.after, failed);
+    size
+}
+
+// Writes the file that an argument names, or leaves what is there and says why. Nothing may have failed before.
+fn put_file(index: usize, bytes: &[u8], failed: &mut u8)
     requires { ⌜ now failed ≡ 0 ⌝ }
     ensures { λ r. ⌜ FailureStays (now (failed .entry)) (now (failed .exit)) ⌝ }
 {
@@ -211,4 +229,18 @@ pub fn not_written(index: usize, status: u8, failed: &mut u8) -> u8
 {
     say_of(index, b"not written\n", failed);
     first_of(*failed, status)
+}
+
+// Writes that file, or says that it is left as it was, and answers the status of the work. That is 0: no other is kept.
+pub fn replace(index: usize, status: u8, bytes: &[u8], failed: &mut u8) -> u8
+    requires { ⌜ status ≡ 0 ⌝ }
+    requires { ⌜ now failed ≡ 0 ⌝ }
+    ensures { λ r. ⌜ r ≡ firstOf (now (failed .exit)) status ⌝ }
+    ensures { λ r. ⌜ FailureStays (now (failed .entry)) (now (failed .exit)) ⌝ }
+{
+    put_file(index, bytes, failed);
+    if *failed != 0 {
+        return not_written(index, status, failed);
+    }
+    status
 }

@@ -5,6 +5,7 @@ ghost use lib.ListN.{length, take};
 ghost use Rattle.statuses.specs.Statuses.{firstOf};
 ghost use Rattle.console.specs.Failing.{FailureStays};
 ghost use Rattle.console_showing.specs.Status.{runStatus};
+use console::Done;
 use console::read_two;
 use console::wipe_progress;
 use console_ending::say_ending;
@@ -15,12 +16,6 @@ use statuses::first_of;
 use trace_text::View;
 
 mod lines; // lines.rt: the run, with its lines
-
-// The size of an image that was read, and the status by that.
-struct Told {
-    size: usize,
-    status: u8,
-}
 
 // Shows the run of an image, says how it ended, and answers its status. If its lines cannot be written nothing is said of it.
 fn show_image(
@@ -53,20 +48,20 @@ fn show_argument(
     input: &mut [u8],
     image: &mut [u8],
     failed: &mut u8,
-) -> Told
+) -> Done
     requires { ⌜ length (now input) ≤ length (now image) ⌝ }
     ensures { λ r. ⌜ r .status ≡ firstOf (now (failed .exit)) (runStatus goal count (take (r .size) (now (input .exit)))) ⌝ }
     ensures { λ r. ⌜ FailureStays (now (failed .entry)) (now (failed .exit)) ⌝ }
 {
     let size = read_two(index, input, image, failed);
     if *failed != 0 {
-        return Told {
+        return Done {
             size: size,
             status: *failed,
         };
     }
     let status = show_image(index, view, goal, count, &mut image[..size], failed);
-    Told {
+    Done {
         size: size,
         status: status,
     }
@@ -77,7 +72,7 @@ pub fn show_input(index: usize, view: View, goal: Goal, count: u64) -> u8 {
     let mut input = image_buffer();
     let mut image = image_buffer();
     let mut failed: u8 = 0;
-    let told = show_argument(
+    let done = show_argument(
         index,
         view,
         goal,
@@ -86,5 +81,5 @@ pub fn show_input(index: usize, view: View, goal: Goal, count: u64) -> u8 {
         &mut image,
         &mut failed,
     );
-    told.status
+    done.status
 }

@@ -14,6 +14,7 @@ use libc::STDOUT_FILENO;
 use manual::Ended;
 use manual::FULL_MEMORY;
 use manual::Machine;
+use trace_line::LONGEST_LINE;
 use trace_line::put_line;
 use trace_steps::put_steps;
 use trace_text::View;
@@ -22,7 +23,7 @@ use trace_text::View;
 // `lunch` and `in-parts`).
 const PART: u64 = 1000;
 
-// The lines of a part: 52 is the most that one can have.
+// The lines of a part.
 fn text_buffer() -> [u8; 52000]
     ensures { λ r. ⌜ 52000 ≡ length r ⌝ }
 {
@@ -50,7 +51,7 @@ fn write_start(machine: Machine, length: usize, failed: &mut u8)
     if length != FULL_MEMORY {
         return;
     }
-    let mut text = [0u8; 41];
+    let mut text = [0u8; LONGEST_LINE];
     let size = put_line(&mut text, 0, machine);
     write_output(&text[..size], failed);
 }

@@ -6,20 +6,20 @@ ghost use mathlib.Core.Path.{_≡_};
 ghost use lib.ListN.{take};
 ghost use Rattle.statuses.specs.Statuses.{firstOf};
 ghost use Rattle.tape_moving.specs.Moving.{movedFrom};
+use console::Done;
 use console::note_failure;
 use console::read_input;
 use console::say_of;
 use console::write_output;
+use laws::answers::*;
 use statuses::first_of;
 use tape_loading::Format;
+use tape_loading::LONGEST_SENTENCE;
 use tape_loading::Verdict;
 use tape_loading::format_of;
 use tape_loading::put_sentence;
 use tape_moving::move_text;
 use tape_paper::tape_buffer;
-
-// The status of a tape that does not fit.
-const TOO_LONG: u8 = 10;
 
 // Reads it into a tape buffer, and answers its size. One that fills the buffer may be longer, and is refused.
 pub fn read_tape_input(index: usize, tape: &mut [u8], failed: &mut u8) -> usize
@@ -30,7 +30,7 @@ pub fn read_tape_input(index: usize, tape: &mut [u8], failed: &mut u8) -> usize
     if size < tape.len() {
         return size;
     }
-    note_failure(TOO_LONG, failed);
+    note_failure(NO_ROOM, failed);
     say_of(
         index,
         b"refused: it has more than 1048575 characters\n",
@@ -43,22 +43,15 @@ pub fn read_tape_input(index: usize, tape: &mut [u8], failed: &mut u8) -> usize
 pub fn say_verdict(index: usize, format: Format, verdict: Verdict, failed: &mut u8)
     ensures { λ r. ⌜ FailureStays (now (failed .entry)) (now (failed .exit)) ⌝ }
 {
-    // 160 is the most that a sentence can have: see `put_sentence`.
-    let mut text = [0u8; 160];
+    let mut text = [0u8; LONGEST_SENTENCE];
     let size = put_sentence(&mut text, 0, format, verdict);
     say_of(index, &text[..size], failed);
-}
-
-// How many characters were read, and the status.
-pub struct Done {
-    pub size: usize,
-    pub status: u8,
 }
 
 fn explain(index: usize, from: Format, verdict: Verdict, failed: &mut u8)
     ensures { λ r. ⌜ FailureStays (now (failed .entry)) (now (failed .exit)) ⌝ }
 {
-    if verdict.answer == TOO_LONG {
+    if verdict.answer == NO_ROOM {
         return say_of(
             index,
             b"refused: the new text has more than 1048576 characters\n",
@@ -72,7 +65,7 @@ fn explain(index: usize, from: Format, verdict: Verdict, failed: &mut u8)
 fn point_out(index: usize, from: Format, verdict: Verdict, text: &[u8], failed: &mut u8)
     ensures { λ r. ⌜ FailureStays (now (failed .entry)) (now (failed .exit)) ⌝ }
 {
-    if verdict.answer != 5 || verdict.good != 0 {
+    if verdict.answer != MALFORMED_RECORD || verdict.good != 0 {
         return;
     }
     match from {

@@ -17,6 +17,7 @@ use manual::HIGHEST_COUNT;
 use manual::Lines;
 use manual::Machine;
 use manual::Reason;
+use manual::SERVING_CYCLES;
 use manual::Stepped;
 use memory::Address;
 use memory::get_byte;
@@ -52,7 +53,7 @@ fn serve_line(vector: u16, start: Registers, count: u64, nmi: bool, memory: &mut
     ensures { λ r. ⌜ Gives (serving vector start count nmi) (now (memory .entry)) r (now (memory .exit)) ⌝ }
 {
     let registers = serve(vector, start, memory);
-    let left = Machine::new(registers, count + 7, nmi);
+    let left = Machine::new(registers, count + SERVING_CYCLES, nmi);
     Travelled::new(Reason::Made, 1, 0, left)
 }
 

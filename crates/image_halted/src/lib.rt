@@ -5,6 +5,7 @@ ghost use lib.ListN.{length, take};
 ghost use Rattle.io.specs.Counts.{Counts};
 ghost use Rattle.manual.specs.Stepping.{fullMemory};
 ghost use Rattle.image_halted.specs.Halted.{haltedRun, isHalted, startOf, memoryOf, afterFile};
+ghost use Rattle.trace_line.specs.Lines.{longestLine};
 use manual::FULL_MEMORY;
 use manual::Machine;
 use statuses::Goal;
@@ -65,7 +66,7 @@ pub fn open(file: &[u8]) -> Opened
 
 // Puts the line of the state after the memory that stands at the start of a buffer. The two have at most 65,577 bytes.
 fn put_state(file: &mut [u8], machine: Machine) -> usize
-    requires { ⌜ fullMemory + 41 ≤ length (now file) ⌝ }
+    requires { ⌜ fullMemory + longestLine ≤ length (now file) ⌝ }
     ensures { λ r. ⌜ take r (now (file .exit)) ≡ haltedRun machine (take fullMemory (now (file .entry))) ⌝ }
     ensures { λ r. ⌜ Counts r (now (file .exit)) ⌝ }
 {
@@ -74,7 +75,7 @@ fn put_state(file: &mut [u8], machine: Machine) -> usize
 
 // Makes the file that a run leaves of the memory that stands at the start of a buffer, and answers its size.
 pub fn put_after(file: &mut [u8], goal: Goal, machine: Machine) -> usize
-    requires { ⌜ fullMemory + 41 ≤ length (now file) ⌝ }
+    requires { ⌜ fullMemory + longestLine ≤ length (now file) ⌝ }
     ensures { λ r. ⌜ take r (now (file .exit)) ≡ afterFile goal machine (take fullMemory (now (file .entry))) ⌝ }
     ensures { λ r. ⌜ Counts r (now (file .exit)) ⌝ }
 {

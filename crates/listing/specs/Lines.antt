@@ -69,6 +69,10 @@ text l = fields l ++ characters "\n"
 abbrev pub instructionAt : List ℕ → ℕ → List ℕ
 instructionAt m at = fields (lineOf m at (decoded (getD m at 0)))
 
+-- the most characters that it has
+abbrev pub longestInstruction : ℕ
+longestInstruction = 25
+
 abbrev pub texts : List Line → List ℕ
 texts [] = []
 texts (l ∷ ls) = text l ++ texts ls

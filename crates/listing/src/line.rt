@@ -61,6 +61,9 @@ fn put_words(out: &mut [u8], at: usize, opcode: u8, memory: &[u8], address: u16)
     }
 }
 
+// The most characters that an instruction has: its address, three bytes, its name and an operand as `($FF),Y`.
+pub const LONGEST_INSTRUCTION: usize = 25;
+
 // The line of what stands at an address, but for its end.
 pub fn put_instruction(out: &mut [u8], at: usize, memory: &[u8], address: u16) -> usize
     requires { ⌜ length (now memory) ≡ 65536 ⌝ }

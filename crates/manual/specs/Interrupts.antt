@@ -19,6 +19,10 @@ nmiVector = 0xFFFA
 abbrev pub irqVector : ℕ
 irqVector = 0xFFFE
 
+-- the cycles of a line that is served
+abbrev pub servingCycles : ℕ
+servingCycles = 7
+
 -- a return address and a status byte are pushed, I is set, D is kept, and the counter goes through a vector
 unfoldable pub enter : ℕ → ℕ → ℕ → Registers → Micro Registers
 enter back byte vector r = do

@@ -1,6 +1,7 @@
 -- What an instruction, a step and a run leave, and the answer number of each reason (docs/RULES.md).
 use Prim.Native.Nat.{ℕ}
 use mathlib.Core.Bool.{Bool, true, false}
+use Rattle.laws.specs.Answers.{notRefused, memoryNotFull, noCycleRoom, notAnOpcode, boundTooHigh}
 use Rattle.registers.specs.declared.Registers.{Registers}
 use Rattle.manual.specs.declared.Machine.{Machine}
 use Rattle.manual.specs.declared.Effect.{Effect}
@@ -21,17 +22,13 @@ leaves r extra = leavesAt 0 r extra
 abbrev pub machineOf : Registers → ℕ → Bool → Machine
 machineOf r cycles nmi = record { registers = r; cycles = cycles; nmi = nmi }
 
--- 0: the step, or every step of the run, was made
--- 1: the lent memory is not 65,536 bytes long
--- 2: the cycle count leaves no room for another step
--- 3: the byte at the counter is no documented opcode
--- 4: the run's bound is above 1,000,000
+-- not refused: the step, or every step of the run, was made
 abbrev pub number : Reason → ℕ
-number Made = 0
-number MemoryNotFull = 1
-number NoCycleRoom = 2
-number NotAnOpcode = 3
-number BoundTooHigh = 4
+number Made = notRefused
+number MemoryNotFull = memoryNotFull
+number NoCycleRoom = noCycleRoom
+number NotAnOpcode = notAnOpcode
+number BoundTooHigh = boundTooHigh
 
 abbrev pub isMade : Reason → Bool
 isMade Made = true

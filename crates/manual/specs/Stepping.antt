@@ -15,7 +15,7 @@ use Rattle.manual.specs.declared.Ended.{Ended}
 use Rattle.manual.specs.declared.Reason.the-variants.{Made, MemoryNotFull, NoCycleRoom, NotAnOpcode, BoundTooHigh}
 use Rattle.manual.specs.Micro.{Micro, done, _>>=_, fetch}
 use Rattle.manual.specs.Outcomes.{machineOf, isMade, stepped, refused, ended}
-use Rattle.manual.specs.Interrupts.{served, due}
+use Rattle.manual.specs.Interrupts.{servingCycles, served, due}
 use Rattle.manual.specs.Instructions.{perform}
 
 abbrev pub fullMemory : ℕ
@@ -44,7 +44,7 @@ act Undefined lines s = done (refused NotAnOpcode s)
 unfoldable pub attend : Due → Lines → Machine → Micro Stepped
 attend (Through vector) lines s = do
   r ← served vector (s .registers)
-  done (made lines s 0 r 7)
+  done (made lines s 0 r servingCycles)
 attend Quiet lines s = do
   opcode ← fetch (s .registers .counter)
   act (decoded opcode) lines s

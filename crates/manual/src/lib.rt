@@ -2,6 +2,7 @@
 ghost use mathlib.Core.Path.{_≡_};
 ghost use Rattle.manual.specs.Outcomes.{leavesAt, leaves, machineOf, number, isMade, stepped, ended};
 ghost use Rattle.manual.specs.Interrupts.{idle, due};
+use laws::answers::*;
 use registers::Registers;
 
 // The length of a whole memory, the highest cycle count from which a step is made, and the highest bound of a run.
@@ -15,6 +16,9 @@ pub const HIGHEST_BOUND: u64 = 1000000;
 pub const NMI_VECTOR: u16 = 0xFFFA;
 
 pub const IRQ_VECTOR: u16 = 0xFFFE;
+
+// The cycles of a line that is served.
+pub const SERVING_CYCLES: u64 = 7;
 
 // What a step changes besides memory: the registers, the cycle count, and the last level of NMI, true if it was high.
 pub struct Machine {
@@ -177,11 +181,11 @@ impl Reason {
         ensures { λ r. ⌜ r ≡ number self ⌝ }
     {
         match self {
-            Reason::Made => 0,
-            Reason::MemoryNotFull => 1,
-            Reason::NoCycleRoom => 2,
-            Reason::NotAnOpcode => 3,
-            Reason::BoundTooHigh => 4,
+            Reason::Made => NOT_REFUSED,
+            Reason::MemoryNotFull => MEMORY_NOT_FULL,
+            Reason::NoCycleRoom => NO_CYCLE_ROOM,
+            Reason::NotAnOpcode => NOT_AN_OPCODE,
+            Reason::BoundTooHigh => BOUND_TOO_HIGH,
         }
     }
     // Whether every step that was asked for was made.

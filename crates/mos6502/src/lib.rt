@@ -15,6 +15,7 @@ ghost use Rattle.mos6502.specs.Calls.{RunCall, LongRunCall, CyclesCall};
 use cpu::fitting;
 use cpu::turn;
 use cpu_cycles::sure_steps;
+use laws::answers::*;
 use manual::FULL_MEMORY;
 use manual::HIGHEST_BOUND;
 use mos6502_numbers::hand_back;
@@ -196,13 +197,13 @@ fn go_on(
     while total < bound {
         let answer = one_turn(registers, cycles, &mut made, bound - total, lines, memory);
         total += made;
-        if answer != 0 {
+        if answer != NOT_REFUSED {
             *steps = total;
             return answer;
         }
     }
     *steps = total;
-    0
+    NOT_REFUSED
 }
 
 // A run of at most `bound` steps. If it makes none, both numbers stay as they were.
@@ -222,11 +223,11 @@ pub extern "C" fn mos6502_run(
 {
     if memory.len() != FULL_MEMORY {
         *steps = 0;
-        return 1;
+        return MEMORY_NOT_FULL;
     }
     if HIGHEST_BOUND < bound {
         *steps = 0;
-        return 4;
+        return BOUND_TOO_HIGH;
     }
     go_on(registers, cycles, steps, bound, lines, memory)
 }
@@ -248,7 +249,7 @@ pub extern "C" fn mos6502_long_run(
 {
     if memory.len() != FULL_MEMORY {
         *steps = 0;
-        return 1;
+        return MEMORY_NOT_FULL;
     }
     go_on(registers, cycles, steps, bound, lines, memory)
 }
@@ -271,11 +272,11 @@ pub extern "C" fn mos6502_run_cycles(
 {
     if memory.len() != FULL_MEMORY {
         *steps = 0;
-        return 1;
+        return MEMORY_NOT_FULL;
     }
     if HIGHEST_BOUND < limit {
         *steps = 0;
-        return 4;
+        return BOUND_TOO_HIGH;
     }
     let from = *cycles;
     let mut total: u64 = 0;
@@ -291,11 +292,11 @@ pub extern "C" fn mos6502_run_cycles(
             memory,
         );
         total += made;
-        if answer != 0 {
+        if answer != NOT_REFUSED {
             *steps = total;
             return answer;
         }
     }
     *steps = total;
-    0
+    NOT_REFUSED
 }

@@ -3,6 +3,7 @@
 // the first address of a step.
 ghost use Rattle.mos6502.specs.Calls.{StepCall};
 use cpu::turn;
+use laws::answers::*;
 use manual::FULL_MEMORY;
 use mos6502_numbers::hand_back;
 use mos6502_numbers::lines_from;
@@ -25,7 +26,7 @@ pub extern "C" fn mos6502_step(
 {
     if memory.len() != FULL_MEMORY {
         *first = 0;
-        return 1;
+        return MEMORY_NOT_FULL;
     }
     let turned = turn(
         machine_from(*registers, *cycles),

@@ -4,6 +4,7 @@ use mathlib.Core.Bool.{Bool}
 use mathlib.Core.List.{List}
 use lib.Dec.{ltb}
 use lib.ListN.{length}
+use Rattle.laws.specs.Answers.{halted}
 use Rattle.manual.specs.declared.Machine.{Machine}
 use Rattle.manual.specs.Outcomes.{number}
 use Rattle.mos6502_numbers.specs.Machines.{machineFrom, linesFrom, registersAfter, cyclesAfter}
@@ -31,7 +32,7 @@ told registers cycles answer place k s = record {
 -- a run's own answer and no place; or 13, and the address
 abbrev pub watchNumbers : ℕ → ℕ → Watched → WatchNumbers
 watchNumbers registers cycles (Watched.Ran q) = told registers cycles (number (q .reason)) 0 (q .steps) (q .machine)
-watchNumbers registers cycles (Watched.Halted h) = told registers cycles 13 (h .place) (h .steps) (h .machine)
+watchNumbers registers cycles (Watched.Halted h) = told registers cycles halted (h .place) (h .steps) (h .machine)
 
 abbrev pub onNumbers : ℕ → ℕ → Watched × List ℕ → WatchNumbers × List ℕ
 onNumbers registers cycles w = (watchNumbers registers cycles (w .0), w .1)

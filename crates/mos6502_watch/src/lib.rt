@@ -3,10 +3,10 @@
 ghost use mathlib.Core.Path.{_≡_};
 ghost use Rattle.watch.specs.Guarded.{inPages, inStretch};
 ghost use Rattle.mos6502_watch.specs.Watching.{watchNumbers, watchedOnNumbers, longWatchedOnNumbers};
+use laws::answers::*;
 use mos6502_numbers::hand_back;
 use mos6502_numbers::lines_from;
 use mos6502_numbers::machine_from;
-use watch::HALTED;
 use watch::Watched;
 use watch::watched_long;
 use watch::watched_run;

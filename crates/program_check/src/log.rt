@@ -6,7 +6,7 @@ ghost use lib.ListN.{length, take, drop};
 ghost use lib.Seq.{sets};
 ghost use Rattle.console.specs.Failing.{FailureStays};
 ghost use Rattle.text_reading.specs.Numbers.{nowhere};
-ghost use Rattle.program_check.specs.Inner.Ahead.{partEnd, another};
+ghost use Rattle.program_check.specs.Inner.Ahead.{mostHeld, partEnd, another};
 ghost use Rattle.program_check.specs.Inner.Turns.{partIn, added, Goes, More, Ends};
 use console::close_input;
 use console::note_failure;
@@ -14,6 +14,7 @@ use console::open_input;
 use console::put_input_name;
 use console::show_progress;
 use console::wipe_progress;
+use laws::answers::*;
 use statuses::FAILED;
 use text_writing::put_text;
 use trace_checking::Last;
@@ -58,17 +59,20 @@ fn read_more(
     kept + more
 }
 
-// Where a part ends: after its last LF. At the end of the log it is all there is, and so it is if more than 64 characters
-// stand after that LF, for no entry has more than 41 (the theorems `joined` and `overlong` of checking).
+// The most characters after the last LF of a part that are held back for the next one.
+const MOST_HELD: usize = 64;
+
+// Where a part ends: after its last LF. At the end of the log it is all there is, and so it is if more than can be held back
+// stands after that LF: no entry has as many characters (the theorems `joined` and `overlong` of trace_checking).
 fn part_end(size: usize, whole: usize, ended: bool) -> usize
     requires { ⌜ whole ≤ size ⌝ }
     ensures { λ r. ⌜ r ≡ partEnd ended size whole ⌝ }
-    ensures { λ r. ⌜ (r ≤ size) × (size - r ≤ 64) ⌝ }
+    ensures { λ r. ⌜ (r ≤ size) × (size - r ≤ mostHeld) ⌝ }
 {
     if ended {
         return size;
     }
-    if 64 < size - whole {
+    if MOST_HELD < size - whole {
         return size;
     }
     whole
@@ -76,11 +80,11 @@ fn part_end(size: usize, whole: usize, ended: bool) -> usize
 
 // Moves what stands between two places to the front.
 fn keep_rest(buffer: &mut [u8], end: usize, size: usize) -> usize
-    requires { ⌜ (end ≤ size) × (size ≤ length (now buffer)) × (size - end ≤ 64) ⌝ }
+    requires { ⌜ (end ≤ size) × (size ≤ length (now buffer)) × (size - end ≤ mostHeld) ⌝ }
     ensures { λ r. ⌜ now (buffer .exit) ≡ sets (now (buffer .entry)) 0 (take (size - end) (drop end (now (buffer .entry)))) ⌝ }
     ensures { λ r. ⌜ r ≡ size - end ⌝ }
 {
-    let mut rest = [0u8; 64];
+    let mut rest = [0u8; MOST_HELD];
     let left = put_text(&mut rest, 0, &buffer[end..size]);
     put_text(buffer, 0, &rest[..left]);
     left
@@ -94,10 +98,10 @@ fn goes_on(size: usize, whole: usize, ended: bool, answer: u8) -> bool
     if ended {
         return false;
     }
-    if 64 < size - whole {
+    if MOST_HELD < size - whole {
         return false;
     }
-    answer == 0
+    answer == NOT_REFUSED
 }
 
 // What a part shows, after so many entries.
@@ -178,7 +182,7 @@ fn check_from(descriptor: i32, shown: &[u8], copy: &mut [u8], failed: &mut u8) -
 {
     let mut buffer = io::large_buffer();
     let mut found = Found {
-        answer: 0,
+        answer: NOT_REFUSED,
         lines: 0,
         last: Last::Start,
     };
@@ -208,7 +212,7 @@ pub(crate) fn check_log(index: usize, copy: &mut [u8], failed: &mut u8) -> Found
     let size = put_input_name(&mut name, index);
     if *failed != 0 {
         return Found {
-            answer: 0,
+            answer: NOT_REFUSED,
             lines: 0,
             last: Last::Start,
         };

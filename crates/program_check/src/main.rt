@@ -21,6 +21,7 @@ ghost use lib.ListN.{length, take};
 ghost use Rattle.statuses.specs.Statuses.{logStatus, firstOf};
 ghost use Rattle.console.specs.Failing.{FailureStays};
 ghost use Rattle.program_check.specs.Concluded.{Concludes, Notes};
+ghost use Rattle.trace_line.specs.Lines.{longestLine};
 use console::argument_is;
 use console::hand_over;
 use console::names_from;
@@ -30,37 +31,40 @@ use console::refuse;
 use console::say_of;
 use console::write_output;
 use console_ending::say_refused;
+use laws::answers::*;
 use log::Found;
 use log::check_log;
 use manual::Ended;
 use memory::image_buffer;
+use sentences::LONGEST_SENTENCE;
 use sentences::put_sentence;
 use statuses::Goal;
 use statuses::first_of;
 use statuses::log_status;
 use trace_checking::Last;
+use trace_line::LONGEST_LINE;
 use trace_steps::put_steps;
+use trace_text::LONGEST_FINDING;
+use trace_text::LONGEST_VERDICT;
 use trace_text::View;
 use trace_text::put_finding;
 use trace_text::put_verdict;
 
 mod log; // log.rt: a log, read and checked part by part
 
-// 41 is the most that a line can have (`put_steps`), and 66 that line with an answer and a number before it (`put_verdict`).
 fn write_verdict(answer: u8, line: u64, right: &[u8], failed: &mut u8)
-    requires { ⌜ length (now right) ≤ 41 ⌝ }
+    requires { ⌜ length (now right) ≤ longestLine ⌝ }
     ensures { λ r. ⌜ FailureStays (now (failed .entry)) (now (failed .exit)) ⌝ }
 {
-    let mut text = [0u8; 66];
+    let mut text = [0u8; LONGEST_VERDICT];
     let end = put_verdict(&mut text, 0, answer, line, right);
     write_output(&text[..end], failed);
 }
 
-// 90 is the most that a sentence can have (`put_finding`).
 fn say_finding(index: usize, answer: u8, number: u64, failed: &mut u8)
     ensures { λ r. ⌜ FailureStays (now (failed .entry)) (now (failed .exit)) ⌝ }
 {
-    let mut text = [0u8; 90];
+    let mut text = [0u8; LONGEST_FINDING];
     let size = put_finding(&mut text, 0, answer, number);
     say_of(index, &text[..size], failed);
 }
@@ -73,7 +77,7 @@ fn say_stuck(index: usize, ended: Ended, copy: &[u8], failed: &mut u8)
     if reason.is_made() {
         return;
     }
-    let mut text = [0u8; 80];
+    let mut text = [0u8; LONGEST_SENTENCE];
     let size = put_sentence(&mut text, 0, Goal::Unnamed, ended, copy);
     say_of(index, &text[..size], failed);
 }
@@ -83,14 +87,14 @@ fn show_right(index: usize, line: u64, last: Last, copy: &mut [u8], failed: &mut
     ensures { λ r. ⌜ FailureStays (now (failed .entry)) (now (failed .exit)) ⌝ }
 {
     match last {
-        Last::Start => write_verdict(12, line, b"", failed),
+        Last::Start => write_verdict(STRAY_ENTRY, line, b"", failed),
         Last::After(machine) => {
-            let mut right = [0u8; 41];
+            let mut right = [0u8; LONGEST_LINE];
             let shown = put_steps(&mut right, View::States, machine, 1, copy);
             let size = shown.size;
             let ended = shown.ended;
             say_stuck(index, ended, copy, failed);
-            write_verdict(12, line, &right[..size], failed);
+            write_verdict(STRAY_ENTRY, line, &right[..size], failed);
         }
     }
 }
@@ -101,7 +105,7 @@ fn show_bad(index: usize, status: u8, found: Found, copy: &mut [u8], failed: &mu
 {
     let bad = std::num::wrapping_add_u64(found.lines, 1);
     say_finding(index, status, bad, failed);
-    if status == 12 {
+    if status == STRAY_ENTRY {
         let last = found.last;
         show_right(index, bad, last, copy, failed);
         return;
@@ -114,8 +118,8 @@ fn show_found(index: usize, status: u8, found: Found, copy: &mut [u8], failed: &
     ensures { λ r. ⌜ FailureStays (now (failed .entry)) (now (failed .exit)) ⌝ }
 {
     if status == 0 {
-        say_finding(index, 0, found.lines, failed);
-        write_verdict(0, 0, b"", failed);
+        say_finding(index, NOT_REFUSED, found.lines, failed);
+        write_verdict(NOT_REFUSED, 0, b"", failed);
         return;
     }
     show_bad(index, status, found, copy, failed);
@@ -137,8 +141,8 @@ fn refuse_image(index: usize, image: &[u8], failed: &mut u8) -> u8
     ensures { λ r. ⌜ FailureStays (now (failed .entry)) (now (failed .exit)) ⌝ }
 {
     say_refused(index, image, failed);
-    write_verdict(1, 0, b"", failed);
-    first_of(*failed, 1)
+    write_verdict(MEMORY_NOT_FULL, 0, b"", failed);
+    first_of(*failed, MEMORY_NOT_FULL)
 }
 
 // Checks a log on a copy of the image, and answers the status: there is a text, the one that was read, of which this is it.

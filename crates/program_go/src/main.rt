@@ -24,48 +24,38 @@ ghost use Rattle.manual.specs.Stepping.{fullMemory};
 ghost use Rattle.statuses.specs.Statuses.{firstOf};
 ghost use Rattle.console.specs.Failing.{FailureStays};
 ghost use Rattle.program_go.specs.Runs.{goStatus, goAfter};
-use console::address_argument;
-use console::argument_is;
-use console::count_argument;
+ghost use Rattle.trace_line.specs.Lines.{longestLine};
+use console::Asked;
+use console::Done;
+use console::Names;
 use console::hand_over;
-use console::names_from;
-use console::read_two;
+use console::image_and_after;
 use console::refuse;
+use console::steps_and_stop;
 use console::wipe_progress;
 use console::write_output;
 use console_ending::say_ending;
-use console_files::can_replace;
 use console_files::is_same_file;
 use console_files::not_written;
+use console_files::read_and_test;
 use console_files::replace;
 use image_halted::open;
 use image_halted::put_after;
 use manual::Ended;
 use memory::image_buffer;
 use running::run_from;
+use sentences::LONGEST_LINE;
 use sentences::put_line;
 use statuses::Goal;
-use text_reading::NOWHERE;
+use statuses::WRONG_USAGE;
+use statuses::first_of;
 
 mod running; // running.rt: the run of a file
 
-// The arguments that name files.
-struct Names {
-    image: usize,
-    after: usize,
-}
-
-// How many bytes were read, and the status.
-struct Done {
-    size: usize,
-    status: u8,
-}
-
-// 64 is the most that a line can have: see `put_line`.
 fn print_line(ended: Ended, failed: &mut u8)
     ensures { λ r. ⌜ FailureStays (now (failed .entry)) (now (failed .exit)) ⌝ }
 {
-    let mut text = [0u8; 64];
+    let mut text = [0u8; LONGEST_LINE];
     let size = put_line(&mut text, 0, ended);
     write_output(&text[..size], failed);
 }
@@ -79,12 +69,13 @@ fn keep(
     status: u8,
     file: &[u8],
     failed: &mut u8,
-)
+) -> u8
     requires { ⌜ (status ≡ 0) × (goStatus goal steps (now input) ≡ 0) × (now file ≡ goAfter goal steps (now input)) ⌝ }
     requires { ⌜ now failed ≡ 0 ⌝ }
+    ensures { λ r. ⌜ r ≡ firstOf (now (failed .exit)) status ⌝ }
     ensures { λ r. ⌜ FailureStays (now (failed .entry)) (now (failed .exit)) ⌝ }
 {
-    replace(after, status, file, failed);
+    replace(after, status, file, failed)
 }
 
 // Runs what was read, in the copy of it that stands at the start of `image`, and keeps what it leaves there.
@@ -96,7 +87,7 @@ fn go_file(
     image: &mut [u8],
     failed: &mut u8,
 ) -> u8
-    requires { ⌜ (take (length (now input)) (now image) ≡ now input) × (length (now input) ≤ length (now image)) × (fullMemory + 41 ≤ length (now image)) ⌝ }
+    requires { ⌜ (take (length (now input)) (now image) ≡ now input) × (length (now input) ≤ length (now image)) × (fullMemory + longestLine ≤ length (now image)) ⌝ }
     ensures { λ r. ⌜ r ≡ firstOf (now (failed .exit)) (goStatus goal steps (now (input .entry))) ⌝ }
     ensures { λ r. ⌜ FailureStays (now (failed .entry)) (now (failed .exit)) ⌝ }
 {
@@ -107,10 +98,7 @@ fn go_file(
     wipe_progress();
     print_line(ended, failed);
     let status = say_ending(names.image, goal, ended, &image[..size], failed);
-    if *failed != 0 {
-        return not_written(names.after, status, failed);
-    }
-    if status != 0 {
+    if first_of(*failed, status) != 0 {
         return not_written(names.after, status, failed);
     }
     let machine = ended.machine;
@@ -123,14 +111,10 @@ fn go_file(
         status,
         &image[..after_size],
         failed,
-    );
-    if *failed != 0 {
-        return not_written(names.after, status, failed);
-    }
-    status
+    )
 }
 
-// Reads the image into both buffers, tests AFTER before anything is run, and runs it in the second.
+// Reads the image into both buffers, and runs it in the second.
 fn go_argument(
     names: Names,
     goal: Goal,
@@ -139,17 +123,10 @@ fn go_argument(
     image: &mut [u8],
     failed: &mut u8,
 ) -> Done
-    requires { ⌜ (length (now input) ≤ length (now image)) × (fullMemory + 41 ≤ length (now image)) ⌝ }
+    requires { ⌜ (length (now input) ≤ length (now image)) × (fullMemory + longestLine ≤ length (now image)) ⌝ }
     ensures { λ r. ⌜ r .status ≡ firstOf (now (failed .exit)) (goStatus goal steps (take (r .size) (now (input .exit)))) ⌝ }
 {
-    let size = read_two(names.image, input, image, failed);
-    if *failed != 0 {
-        return Done {
-            size: size,
-            status: *failed,
-        };
-    }
-    can_replace(names.after, failed);
+    let size = read_and_test(names, input, image, failed);
     if *failed != 0 {
         return Done {
             size: size,
@@ -174,35 +151,16 @@ fn go(names: Names, steps: u64, goal: Goal) -> u8 {
     done.status
 }
 
-fn go_by_goal(names: Names) -> u8 {
-    let steps = count_argument(1);
-    if steps.next == NOWHERE {
-        return refuse(b"go: STEPS is a decimal number below 18446744073709551616\n");
-    }
-    if argument_is(2, b"-") {
-        return go(names, steps.value, Goal::AllSteps);
-    }
-    let address = address_argument(2);
-    if address.next == NOWHERE {
-        return refuse(b"go: STOP is an address, four capital hexadecimal digits, or -\n");
-    }
-    go(names, steps.value, Goal::At(address.value))
-}
-
 fn go_by_arguments() -> u8 {
-    let image = names_from(3);
-    let after = image + 1;
-    if image == 0
-        || os::arg_count() != after + 1
-        || argument_is(after, b"-")
-        || argument_is(after, b"")
-    {
+    let names = image_and_after(3);
+    if names.image == 0 {
         return refuse(b"go: give STEPS STOP IMAGE AFTER; ./run go --help\n");
     }
-    go_by_goal(Names {
-        image: image,
-        after: after,
-    })
+    let asked = steps_and_stop(b"go", 1);
+    match asked {
+        Asked::For(steps, goal) => go(names, steps, goal),
+        Asked::Nothing => WRONG_USAGE,
+    }
 }
 
 fn main() {

@@ -15,6 +15,7 @@ ghost use lib.ListN.{length, take};
 ghost use Rattle.statuses.specs.Statuses.{firstOf};
 ghost use Rattle.console.specs.Failing.{FailureStays};
 ghost use Rattle.listing.specs.Listing.{listingInto};
+use console::Done;
 use console::address_argument;
 use console::hand_over;
 use console::names_from;
@@ -23,16 +24,11 @@ use console::refuse;
 use console::say_of;
 use console::write_output;
 use console_ending::say_refused;
+use laws::answers::*;
 use listing::list;
 use memory::image_buffer;
 use statuses::first_of;
 use text_reading::NOWHERE;
-
-// The size of an image that was read, and the status by that.
-struct Told {
-    size: usize,
-    status: u8,
-}
 
 // Room for the listing of 18,724 bytes and, if not all of them are lines of their own, of more.
 fn text_buffer() -> [u8; 262144]
@@ -45,11 +41,11 @@ fn text_buffer() -> [u8; 262144]
 fn explain(index: usize, answer: u8, image: &[u8], failed: &mut u8)
     ensures { λ r. ⌜ FailureStays (now (failed .entry)) (now (failed .exit)) ⌝ }
 {
-    if answer == 1 {
+    if answer == MEMORY_NOT_FULL {
         say_refused(index, image, failed);
         return;
     }
-    if answer == 9 {
+    if answer == FIRST_ABOVE_LAST {
         say_of(
             index,
             b"refused: the first address is above the last\n",
@@ -57,7 +53,7 @@ fn explain(index: usize, answer: u8, image: &[u8], failed: &mut u8)
         );
         return;
     }
-    if answer == 10 {
+    if answer == NO_ROOM {
         say_of(
             index,
             b"refused: that is more than 262144 characters; list it in parts\n",
@@ -93,19 +89,19 @@ fn list_argument(
     input: &mut [u8],
     text: &mut [u8],
     failed: &mut u8,
-) -> Told
+) -> Done
     ensures { λ r. ⌜ r .status ≡ firstOf (now (failed .exit)) (listingInto (take (r .size) (now (input .exit))) first last (now (text .entry)) .answer) ⌝ }
     ensures { λ r. ⌜ FailureStays (now (failed .entry)) (now (failed .exit)) ⌝ }
 {
     let size = read_input(index, input, failed);
     if *failed != 0 {
-        return Told {
+        return Done {
             size: size,
             status: *failed,
         };
     }
     let status = list_image(index, first, last, &input[..size], text, failed);
-    Told {
+    Done {
         size: size,
         status: status,
     }
@@ -116,8 +112,8 @@ fn list_input(index: usize, first: u16, last: u16) -> u8 {
     let mut input = image_buffer();
     let mut text = text_buffer();
     let mut failed: u8 = 0;
-    let told = list_argument(index, first, last, &mut input, &mut text, &mut failed);
-    told.status
+    let done = list_argument(index, first, last, &mut input, &mut text, &mut failed);
+    done.status
 }
 
 fn list_by_arguments() -> u8 {

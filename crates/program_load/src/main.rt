@@ -23,6 +23,7 @@ ghost use Rattle.manual.specs.Stepping.{fullMemory};
 ghost use Rattle.statuses.specs.Statuses.{firstOf};
 ghost use Rattle.console.specs.Failing.{FailureStays};
 ghost use Rattle.tape_loading.specs.Texts.{readText};
+use console::Done;
 use console::argument_is;
 use console::hand_over;
 use console::names_from;
@@ -35,8 +36,10 @@ use console_files::not_written;
 use console_files::replace;
 use console_tapes::read_tape_input;
 use console_tapes::say_verdict;
+use laws::answers::*;
 use manual::FULL_MEMORY;
 use memory::image_buffer;
+use statuses::first_of;
 use tape_loading::Format;
 use tape_loading::Verdict;
 use tape_loading::format_of;
@@ -52,29 +55,24 @@ struct Names {
     after: usize,
 }
 
-// How many bytes of the image were read, and the status.
-struct Done {
-    size: usize,
-    status: u8,
-}
-
-// The answer 1 is about the image, and all others about the tape.
+// One answer is about the image, and all others about the tape.
 fn explain(tape: usize, format: Format, verdict: Verdict, image: &[u8], failed: &mut u8)
     ensures { λ r. ⌜ FailureStays (now (failed .entry)) (now (failed .exit)) ⌝ }
 {
-    if verdict.answer == 1 {
+    if verdict.answer == MEMORY_NOT_FULL {
         return say_refused(IMAGE, image, failed);
     }
     say_verdict(tape, format, verdict, failed);
 }
 
 // Keeps a memory. `tape` was laid onto `before`: only if all of it is good, and only what the definition says.
-fn keep(after: usize, tape: &[u8], before: &[u8], answer: u8, memory: &[u8], failed: &mut u8)
+fn keep(after: usize, tape: &[u8], before: &[u8], answer: u8, memory: &[u8], failed: &mut u8) -> u8
     requires { ⌜ (answer ≡ 0) × (readText (now tape) (now before) .answer ≡ 0) × (now memory ≡ readText (now tape) (now before) .memory) ⌝ }
     requires { ⌜ now failed ≡ 0 ⌝ }
+    ensures { λ r. ⌜ r ≡ firstOf (now (failed .exit)) answer ⌝ }
     ensures { λ r. ⌜ FailureStays (now (failed .entry)) (now (failed .exit)) ⌝ }
 {
-    replace(after, answer, memory, failed);
+    replace(after, answer, memory, failed)
 }
 
 // Lays a tape onto an image, of which `before` is a copy, and keeps the memory only if the whole tape is good.
@@ -84,17 +82,10 @@ fn load_onto(names: Names, tape: &[u8], before: &[u8], image: &mut [u8], failed:
 {
     let verdict = read_text(tape, image);
     explain(names.tape, format_of(tape), verdict, before, failed);
-    if *failed != 0 {
+    if first_of(*failed, verdict.answer) != 0 {
         return not_written(names.after, verdict.answer, failed);
     }
-    if verdict.answer != 0 {
-        return not_written(names.after, verdict.answer, failed);
-    }
-    keep(names.after, tape, before, verdict.answer, image, failed);
-    if *failed != 0 {
-        return not_written(names.after, verdict.answer, failed);
-    }
-    verdict.answer
+    keep(names.after, tape, before, verdict.answer, image, failed)
 }
 
 // Loads a tape onto the image that is named, which is read into both buffers.

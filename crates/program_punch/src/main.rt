@@ -15,6 +15,7 @@ ghost use lib.ListN.{take};
 ghost use Rattle.statuses.specs.Statuses.{firstOf};
 ghost use Rattle.console.specs.Failing.{FailureStays};
 ghost use Rattle.tape_punching.specs.Punching.{tapeInto};
+use console::Done;
 use console::address_argument;
 use console::hand_over;
 use console::names_from;
@@ -23,26 +24,21 @@ use console::refuse;
 use console::say_of;
 use console::write_output;
 use console_ending::say_refused;
+use laws::answers::*;
 use memory::image_buffer;
 use statuses::first_of;
 use tape_paper::tape_buffer;
 use tape_punching::punch;
 use text_reading::NOWHERE;
 
-// How many bytes were read, and the status.
-struct Done {
-    size: usize,
-    status: u8,
-}
-
 // What the answer means, if nothing was punched. The longest tape has 166,588 characters, so that there is always room.
 fn explain(index: usize, answer: u8, image: &[u8], failed: &mut u8)
     ensures { λ r. ⌜ FailureStays (now (failed .entry)) (now (failed .exit)) ⌝ }
 {
-    if answer == 1 {
+    if answer == MEMORY_NOT_FULL {
         return say_refused(index, image, failed);
     }
-    if answer == 9 {
+    if answer == FIRST_ABOVE_LAST {
         say_of(
             index,
             b"refused: the first address is above the last\n",

@@ -14,6 +14,7 @@ ghost use Rattle.statuses.specs.Statuses.{checkStatus, firstOf};
 ghost use Rattle.console.specs.Failing.{FailureStays};
 ghost use Rattle.program_replay.specs.Verdicts.{faults, tallyOf, replayStatus};
 use compare::Verdict;
+use console::Done;
 use console::hand_over;
 use console::names_from;
 use console::read_input;
@@ -34,12 +35,6 @@ mod line; // line.rt: one line
 struct Tally {
     lines: u64,
     differ: u64,
-}
-
-// The size of a list that was read, and the status by that.
-struct Told {
-    size: usize,
-    status: u8,
 }
 
 // A word for each verdict, with the end of the line; all are of one length, so that one write serves them.
@@ -87,7 +82,13 @@ fn word_of(verdict: Verdict) -> [u8; 12]
     }
 }
 
-// Names a line that differs, and answers 1 for it. 39 is the most that this has: `line `, twenty digits, `: ` and a word.
+// The most characters of what names a line that differs, `line `, twenty digits, `: ` and a word; and of the last line, twice twenty
+// digits and the words.
+const LONGEST_DIFFERENCE: usize = 39;
+
+const LONGEST_TALLY: usize = 65;
+
+// Names a line that differs, and answers 1 for it.
 fn tell(line: u64, verdict: Verdict, failed: &mut u8) -> u64
     ensures { λ r. ⌜ r ≡ faults verdict ⌝ }
     ensures { λ r. ⌜ r ≤ 1 ⌝ }
@@ -96,7 +97,7 @@ fn tell(line: u64, verdict: Verdict, failed: &mut u8) -> u64
     if let Verdict::Same = verdict {
         return 0;
     }
-    let mut text = [0u8; 39];
+    let mut text = [0u8; LONGEST_DIFFERENCE];
     let after_word = put_text(&mut text, 0, b"line ");
     let after_line = put_decimal(&mut text, after_word, line);
     let after_colon = put_text(&mut text, after_line, b": ");
@@ -134,12 +135,12 @@ fn list_buffer() -> [u8; 2097152]
     [0; 2097152]
 }
 
-// The last line, and the status. 65 is the most that the line has: twice twenty digits, and the words.
+// The last line, and the status.
 fn conclude(tally: Tally, failed: &mut u8) -> u8
     ensures { λ r. ⌜ r ≡ firstOf (now (failed .exit)) (checkStatus (tally .lines) (tally .differ)) ⌝ }
     ensures { λ r. ⌜ FailureStays (now (failed .entry)) (now (failed .exit)) ⌝ }
 {
-    let mut text = [0u8; 65];
+    let mut text = [0u8; LONGEST_TALLY];
     let after_lines = put_decimal(&mut text, 0, tally.lines);
     let after_words = put_text(&mut text, after_lines, b" steps replayed, ");
     let after_differ = put_decimal(&mut text, after_words, tally.differ);
@@ -162,19 +163,19 @@ fn replay_list(index: usize, text: &[u8], failed: &mut u8) -> u8
 }
 
 // The same of the list that an argument names, which is read into `input`.
-fn replay_argument(index: usize, input: &mut [u8], failed: &mut u8) -> Told
+fn replay_argument(index: usize, input: &mut [u8], failed: &mut u8) -> Done
     ensures { λ r. ⌜ r .status ≡ firstOf (now (failed .exit)) (replayStatus (take (r .size) (now (input .exit)))) ⌝ }
     ensures { λ r. ⌜ FailureStays (now (failed .entry)) (now (failed .exit)) ⌝ }
 {
     let size = read_input(index, input, failed);
     if *failed != 0 {
-        return Told {
+        return Done {
             size: size,
             status: *failed,
         };
     }
     let status = replay_list(index, &input[..size], failed);
-    Told {
+    Done {
         size: size,
         status: status,
     }
@@ -187,8 +188,8 @@ fn replay_by_arguments() -> u8 {
     }
     let mut input = list_buffer();
     let mut failed: u8 = 0;
-    let told = replay_argument(name, &mut input, &mut failed);
-    told.status
+    let done = replay_argument(name, &mut input, &mut failed);
+    done.status
 }
 
 fn main() {

@@ -4,6 +4,7 @@ ghost use lib.ListN.{length};
 ghost use Rattle.manual.specs.Micro.{Gives};
 ghost use Rattle.text_writing.specs.Written.{Wrote};
 ghost use Rattle.image_run.specs.Report.{imageRun, reportLine};
+ghost use Rattle.sentences.specs.Line.{longestLine};
 use cpu::run;
 use image_run::start_image;
 use manual::Ended;
@@ -28,7 +29,7 @@ fn run_image(image: &mut [u8]) -> Ended
 pub(crate) fn report(image: &mut [u8], text: &mut [u8]) -> Reported
     ensures { λ r. ⌜ Wrote (now (text .entry)) 0 (reportLine (now (image .entry))) (now (text .exit)) (r .size) ⌝ }
     ensures { λ r. ⌜ Gives (imageRun (length (now (image .entry)))) (now (image .entry)) (r .ended) (now (image .exit)) ⌝ }
-    ensures { λ r. ⌜ r .size ≤ 64 ⌝ }
+    ensures { λ r. ⌜ r .size ≤ longestLine ⌝ }
 {
     let ended = run_image(image);
     let size = put_line(text, 0, ended);

@@ -18,7 +18,8 @@ ghost use lib.ListN.{length, take};
 ghost use Rattle.statuses.specs.Statuses.{firstOf};
 ghost use Rattle.console.specs.Failing.{FailureStays};
 ghost use Rattle.program_report.specs.Status.{imageStatus};
-ghost use Rattle.program_report.specs.Named.{WroteAfter};
+ghost use Rattle.program_report.specs.Named.{WroteAfter, longestNamed};
+ghost use Rattle.sentences.specs.Line.{longestLine};
 use console::address_argument;
 use console::argument_is;
 use console::hand_over;
@@ -31,6 +32,7 @@ use console::write_output;
 use console_ending::say_ending;
 use image::report;
 use memory::image_buffer;
+use sentences::LONGEST_LINE;
 use statuses::Goal;
 use statuses::first_of;
 use text_reading::NOWHERE;
@@ -39,9 +41,12 @@ use text_writing::put_text;
 
 mod image; // image.rt: the run of an image, and its line
 
+// The most characters that a line has with a name after it, in place of its end: two spaces, the name and the end.
+const LONGEST_NAMED: usize = LONGEST_LINE + 4098;
+
 // Puts the name of an argument after a line of so many characters, in place of its end.
 fn put_after(index: usize, text: &mut [u8], size: usize) -> usize
-    requires { ⌜ (0 < size) × (size ≤ 64) ⌝ }
+    requires { ⌜ (0 < size) × (size ≤ longestLine) ⌝ }
     ensures { λ r. ⌜ WroteAfter (now (text .entry)) (size - 1) (now (text .exit)) r ⌝ }
 {
     let after_spaces = put_text(text, size - 1, b"  ");
@@ -51,7 +56,7 @@ fn put_after(index: usize, text: &mut [u8], size: usize) -> usize
 
 // Writes a line of so many characters, with the name after it if there are several.
 fn write_line(index: usize, several: bool, text: &mut [u8], size: usize, failed: &mut u8)
-    requires { ⌜ (0 < size) × (size ≤ 64) × (length (now text) ≡ 4162) ⌝ }
+    requires { ⌜ (0 < size) × (size ≤ longestLine) × (length (now text) ≡ longestNamed) ⌝ }
     ensures { λ r. ⌜ FailureStays (now (failed .entry)) (now (failed .exit)) ⌝ }
 {
     if several {
@@ -62,8 +67,7 @@ fn write_line(index: usize, several: bool, text: &mut [u8], size: usize, failed:
     write_output(&text[..size], failed);
 }
 
-// Reports an image that was read, and answers its status; if that failed, it is not run. 64 is the most that a line can
-// have (`report`), and 4,162 with a name (`put_after`).
+// Reports an image that was read, and answers its status; if that failed, it is not run.
 fn report_image(index: usize, several: bool, goal: Goal, image: &mut [u8], failed: &mut u8) -> u8
     ensures { λ r. ⌜ r ≡ firstOf (now (failed .exit)) (imageStatus goal (now (image .entry))) ⌝ }
     ensures { λ r. ⌜ FailureStays (now (failed .entry)) (now (failed .exit)) ⌝ }
@@ -71,7 +75,7 @@ fn report_image(index: usize, several: bool, goal: Goal, image: &mut [u8], faile
     if *failed != 0 {
         return *failed;
     }
-    let mut text = [0u8; 4162];
+    let mut text = [0u8; LONGEST_NAMED];
     let reported = report(image, &mut text);
     let ended = reported.ended;
     write_line(index, several, &mut text, reported.size, failed);

@@ -21,6 +21,7 @@ ghost use lib.ListN.{take};
 ghost use Rattle.statuses.specs.Statuses.{firstOf};
 ghost use Rattle.console.specs.Failing.{FailureStays};
 ghost use Rattle.program_rescue.specs.Status.{statusOf};
+use console::Done;
 use console::hand_over;
 use console::names_from;
 use console::refuse;
@@ -28,27 +29,22 @@ use console::say_of;
 use console::write_output;
 use console_tapes::read_tape_input;
 use console_tapes::say_verdict;
+use laws::answers::*;
 use statuses::first_of;
 use statuses::rescue_status;
 use tape_loading::Format;
 use tape_loading::Verdict;
 use tape_loading::judge_tape;
 use tape_paper::tape_buffer;
+use tape_rescuing::LONGEST_SENTENCE;
 use tape_rescuing::Rescued;
 use tape_rescuing::put_sentence;
 use tape_rescuing::rescue;
 
-// How many characters were read, and the status.
-struct Done {
-    size: usize,
-    status: u8,
-}
-
-// 128 is the most that a sentence can have: see `put_sentence`.
 fn explain(index: usize, rescued: Rescued, verdict: Verdict, failed: &mut u8)
     ensures { λ r. ⌜ FailureStays (now (failed .entry)) (now (failed .exit)) ⌝ }
 {
-    let mut text = [0u8; 128];
+    let mut text = [0u8; LONGEST_SENTENCE];
     let size = put_sentence(&mut text, 0, rescued, verdict.answer);
     say_of(index, &text[..size], failed);
 }
@@ -57,7 +53,7 @@ fn explain(index: usize, rescued: Rescued, verdict: Verdict, failed: &mut u8)
 fn explain_old(index: usize, rescued: Rescued, verdict: Verdict, failed: &mut u8)
     ensures { λ r. ⌜ FailureStays (now (failed .entry)) (now (failed .exit)) ⌝ }
 {
-    if rescued.answer != 0 || rescued.dropped != 0 || verdict.answer == 0 {
+    if rescued.answer != NOT_REFUSED || rescued.dropped != 0 || verdict.answer == NOT_REFUSED {
         return;
     }
     say_verdict(index, Format::Tape, verdict, failed);

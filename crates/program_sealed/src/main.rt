@@ -23,36 +23,36 @@ ghost use Rattle.statuses.specs.Statuses.{firstOf};
 ghost use Rattle.console.specs.Failing.{FailureStays};
 ghost use Rattle.watch_extract.specs.Words.{sealedStatus};
 ghost use Rattle.program_sealed.specs.Runs.{watchedFile, watchStatus, watchAfter};
+ghost use Rattle.trace_line.specs.Lines.{longestLine};
+use console::Asked;
+use console::Done;
+use console::Names;
 use console::address_argument;
-use console::argument_is;
-use console::count_argument;
 use console::hand_over;
-use console::names_from;
-use console::read_two;
+use console::image_and_after;
 use console::refuse;
 use console::say_of;
+use console::steps_and_stop;
 use console::write_output;
 use console_ending::say_ending;
-use console_files::can_replace;
 use console_files::is_same_file;
 use console_files::not_written;
+use console_files::read_and_test;
 use console_files::replace;
 use image_halted::put_after;
 use manual::FULL_MEMORY;
 use memory::image_buffer;
 use statuses::Goal;
+use statuses::WRONG_USAGE;
+use statuses::first_of;
 use text_reading::NOWHERE;
 use watch::Watched;
+use watch_extract::LONGEST_OATH;
+use watch_extract::LONGEST_SEALED_LINE;
 use watch_extract::put_oath;
 use watch_extract::put_sealed_line;
 use watch_extract::run_sealed;
 use watch_extract::sealed_status;
-
-// The arguments that name files.
-struct Names {
-    image: usize,
-    after: usize,
-}
 
 // The first and the last sealed address, where the run is meant to end, and how many steps it may make.
 struct Work {
@@ -62,17 +62,10 @@ struct Work {
     steps: u64,
 }
 
-// How many bytes were read, and the status.
-struct Done {
-    size: usize,
-    status: u8,
-}
-
-// 72 is the most that a line can have: see `put_sealed_line`.
 fn print_line(watched: Watched, failed: &mut u8)
     ensures { λ r. ⌜ FailureStays (now (failed .entry)) (now (failed .exit)) ⌝ }
 {
-    let mut text = [0u8; 72];
+    let mut text = [0u8; LONGEST_SEALED_LINE];
     let size = put_sealed_line(&mut text, 0, watched);
     write_output(&text[..size], failed);
 }
@@ -89,14 +82,14 @@ fn say_end(index: usize, goal: Goal, watched: Watched, image: &[u8], failed: &mu
     }
 }
 
-// Says how the run ended and what can be sworn, and answers the status. 96 is the most that the oath can have: see `put_oath`.
+// Says how the run ended and what can be sworn, and answers the status.
 fn swear(index: usize, work: Work, watched: Watched, image: &[u8], failed: &mut u8) -> u8
     ensures { λ r. ⌜ r ≡ sealedStatus (work .goal) watched ⌝ }
     ensures { λ r. ⌜ FailureStays (now (failed .entry)) (now (failed .exit)) ⌝ }
 {
     let goal = work.goal;
     say_end(index, goal, watched, image, failed);
-    let mut text = [0u8; 96];
+    let mut text = [0u8; LONGEST_OATH];
     let size = put_oath(&mut text, 0, work.first, work.last, watched);
     say_of(index, &text[..size], failed);
     sealed_status(goal, watched)
@@ -104,7 +97,7 @@ fn swear(index: usize, work: Work, watched: Watched, image: &[u8], failed: &mut 
 
 // Makes the file that a run leaves of the memory that stands at the start of a buffer, and answers its size.
 fn put_watched(file: &mut [u8], goal: Goal, watched: Watched) -> usize
-    requires { ⌜ fullMemory + 41 ≤ length (now file) ⌝ }
+    requires { ⌜ fullMemory + longestLine ≤ length (now file) ⌝ }
     ensures { λ r. ⌜ take r (now (file .exit)) ≡ watchedFile goal watched (take fullMemory (now (file .entry))) ⌝ }
     ensures { λ r. ⌜ Counts r (now (file .exit)) ⌝ }
 {
@@ -118,17 +111,18 @@ fn put_watched(file: &mut [u8], goal: Goal, watched: Watched) -> usize
 }
 
 // Keeps a file that a run left. `input` is what was read: only if its status is 0, and only what the definition says.
-fn keep(after: usize, work: Work, input: &[u8], status: u8, file: &[u8], failed: &mut u8)
+fn keep(after: usize, work: Work, input: &[u8], status: u8, file: &[u8], failed: &mut u8) -> u8
     requires { ⌜ (status ≡ 0) × (watchStatus work (now input) ≡ 0) × (now file ≡ watchAfter work (now input)) ⌝ }
     requires { ⌜ now failed ≡ 0 ⌝ }
+    ensures { λ r. ⌜ r ≡ firstOf (now (failed .exit)) status ⌝ }
     ensures { λ r. ⌜ FailureStays (now (failed .entry)) (now (failed .exit)) ⌝ }
 {
-    replace(after, status, file, failed);
+    replace(after, status, file, failed)
 }
 
 // Runs what was read, in the copy of it that stands at the start of `image`, and keeps what it leaves there.
 fn watch_file(names: Names, work: Work, input: &[u8], image: &mut [u8], failed: &mut u8) -> u8
-    requires { ⌜ (take (length (now input)) (now image) ≡ now input) × (length (now input) ≤ length (now image)) × (fullMemory + 41 ≤ length (now image)) ⌝ }
+    requires { ⌜ (take (length (now input)) (now image) ≡ now input) × (length (now input) ≤ length (now image)) × (fullMemory + longestLine ≤ length (now image)) ⌝ }
     ensures { λ r. ⌜ r ≡ firstOf (now (failed .exit)) (watchStatus work (now (input .entry))) ⌝ }
     ensures { λ r. ⌜ FailureStays (now (failed .entry)) (now (failed .exit)) ⌝ }
 {
@@ -137,10 +131,7 @@ fn watch_file(names: Names, work: Work, input: &[u8], image: &mut [u8], failed: 
     let watched = run_sealed(work.steps, work.first, work.last, &mut image[..size]);
     print_line(watched, failed);
     let status = swear(names.image, work, watched, &image[..size], failed);
-    if *failed != 0 {
-        return not_written(names.after, status, failed);
-    }
-    if status != 0 {
+    if first_of(*failed, status) != 0 {
         return not_written(names.after, status, failed);
     }
     let after_size = put_watched(image, goal, watched);
@@ -151,14 +142,10 @@ fn watch_file(names: Names, work: Work, input: &[u8], image: &mut [u8], failed: 
         status,
         &image[..after_size],
         failed,
-    );
-    if *failed != 0 {
-        return not_written(names.after, status, failed);
-    }
-    status
+    )
 }
 
-// Reads the image into both buffers, tests AFTER before anything is run, and runs it in the second.
+// Reads the image into both buffers, and runs it in the second.
 fn watch_argument(
     names: Names,
     work: Work,
@@ -166,17 +153,10 @@ fn watch_argument(
     image: &mut [u8],
     failed: &mut u8,
 ) -> Done
-    requires { ⌜ (length (now input) ≤ length (now image)) × (fullMemory + 41 ≤ length (now image)) ⌝ }
+    requires { ⌜ (length (now input) ≤ length (now image)) × (fullMemory + longestLine ≤ length (now image)) ⌝ }
     ensures { λ r. ⌜ r .status ≡ firstOf (now (failed .exit)) (watchStatus work (take (r .size) (now (input .exit)))) ⌝ }
 {
-    let size = read_two(names.image, input, image, failed);
-    if *failed != 0 {
-        return Done {
-            size: size,
-            status: *failed,
-        };
-    }
-    can_replace(names.after, failed);
+    let size = read_and_test(names, input, image, failed);
     if *failed != 0 {
         return Done {
             size: size,
@@ -202,34 +182,19 @@ fn watch(names: Names, work: Work) -> u8 {
 }
 
 fn watch_by_goal(names: Names, first: u16, last: u16) -> u8 {
-    let steps = count_argument(3);
-    if steps.next == NOWHERE {
-        return refuse(b"sealed: STEPS is a decimal number below 18446744073709551616\n");
-    }
-    if argument_is(4, b"-") {
-        return watch(
+    let asked = steps_and_stop(b"sealed", 3);
+    match asked {
+        Asked::For(steps, goal) => watch(
             names,
             Work {
                 first: first,
                 last: last,
-                goal: Goal::AllSteps,
-                steps: steps.value,
+                goal: goal,
+                steps: steps,
             },
-        );
+        ),
+        Asked::Nothing => WRONG_USAGE,
     }
-    let address = address_argument(4);
-    if address.next == NOWHERE {
-        return refuse(b"sealed: STOP is an address, four capital hexadecimal digits, or -\n");
-    }
-    watch(
-        names,
-        Work {
-            first: first,
-            last: last,
-            goal: Goal::At(address.value),
-            steps: steps.value,
-        },
-    )
 }
 
 fn watch_by_stretch(names: Names) -> u8 {
@@ -248,19 +213,11 @@ fn watch_by_stretch(names: Names) -> u8 {
 }
 
 fn watch_by_arguments() -> u8 {
-    let image = names_from(5);
-    let after = image + 1;
-    if image == 0
-        || os::arg_count() != after + 1
-        || argument_is(after, b"-")
-        || argument_is(after, b"")
-    {
+    let names = image_and_after(5);
+    if names.image == 0 {
         return refuse(b"sealed: give FIRST LAST STEPS STOP IMAGE AFTER; ./run sealed --help\n");
     }
-    watch_by_stretch(Names {
-        image: image,
-        after: after,
-    })
+    watch_by_stretch(names)
 }
 
 fn main() {

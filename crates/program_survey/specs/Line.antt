@@ -15,3 +15,7 @@ rescueFields r =
 
 unfoldable pub line : Verdict → Rescued → List ℕ
 line v r = readFields v ++ rescueFields r ++ characters "\n"
+
+-- the most characters that it has
+abbrev pub longestLine : ℕ
+longestLine = 113

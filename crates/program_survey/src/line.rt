@@ -1,7 +1,7 @@
 // The line of a survey.
 ghost use Prim.Native.Nat.{_+_, _≤_};
 ghost use Rattle.text_writing.specs.Written.{Wrote};
-ghost use Rattle.program_survey.specs.Line.{readFields, rescueFields, line};
+ghost use Rattle.program_survey.specs.Line.{readFields, rescueFields, line, longestLine};
 use tape_loading::Verdict;
 use tape_rescuing::Rescued;
 use text_writing::put_byte;
@@ -27,10 +27,13 @@ fn put_rescued(out: &mut [u8], at: usize, rescued: Rescued) -> usize
     put_spaced_decimal(out, after_dropped, rescued.first as u64)
 }
 
-// Writes the line, which has at most 113 characters.
+// The most characters that the line has.
+pub(crate) const LONGEST_LINE: usize = 113;
+
+// Writes the line.
 pub fn put_line(out: &mut [u8], at: usize, verdict: Verdict, rescued: Rescued) -> usize
     ensures { λ r. ⌜ Wrote (now (out .entry)) at (line verdict rescued) (now (out .exit)) r ⌝ }
-    ensures { λ r. ⌜ r ≤ at + 113 ⌝ }
+    ensures { λ r. ⌜ r ≤ at + longestLine ⌝ }
 {
     let after_read = put_read(out, at, verdict);
     let after_rescued = put_rescued(out, after_read, rescued);

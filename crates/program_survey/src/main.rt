@@ -19,7 +19,9 @@ ghost use lib.ListN.{take};
 ghost use Rattle.statuses.specs.Statuses.{firstOf};
 ghost use Rattle.console.specs.Failing.{FailureStays};
 ghost use Rattle.tape_paper.specs.Tapes.{tapeOf};
+use crate::line::LONGEST_LINE;
 use crate::line::put_line;
+use console::Done;
 use console::hand_over;
 use console::names_from;
 use console::refuse;
@@ -36,17 +38,10 @@ use tape_rescuing::rescue;
 
 mod line; // line.rt: the line of a tape
 
-// How many characters were read, and the status.
-struct Done {
-    size: usize,
-    status: u8,
-}
-
-// 113 is the most that a line can have: see `put_line`.
 fn print_line(verdict: Verdict, rescued: Rescued, failed: &mut u8)
     ensures { λ r. ⌜ FailureStays (now (failed .entry)) (now (failed .exit)) ⌝ }
 {
-    let mut text = [0u8; 113];
+    let mut text = [0u8; LONGEST_LINE];
     let size = put_line(&mut text, 0, verdict, rescued);
     write_output(&text[..size], failed);
 }

@@ -3,6 +3,7 @@ use Prim.Native.Nat.{ℕ}
 use mathlib.Core.Bool.{cond}
 use mathlib.Core.List.{List, _++_}
 use lib.Dec.{eqb}
+use Rattle.laws.specs.Answers.{memoryNotFull}
 use Rattle.manual.specs.declared.Ended.{Ended}
 use Rattle.manual.specs.Outcomes.{number}
 use Rattle.laws.specs.Characters.{characters}
@@ -15,4 +16,8 @@ allFields q =
     decimal (number (q .reason)) ++ spaced (decimal (q .steps)) ++ spaced (machineFields (q .machine)) ++ characters "\n"
 
 unfoldable pub line : Ended → List ℕ
-line q = cond (eqb (number (q .reason)) 1) (characters "1\n") (allFields q)
+line q = cond (eqb (number (q .reason)) memoryNotFull) (characters "1\n") (allFields q)
+
+-- the most characters that it has
+abbrev pub longestLine : ℕ
+longestLine = 64

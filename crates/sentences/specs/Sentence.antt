@@ -46,3 +46,7 @@ unfoldable pub sentence : Goal → Ended → List ℕ → List ℕ
 sentence goal q image =
     let counter = q .machine .registers .counter in
     cond (reached goal q) (done (q .reason) (q .steps) counter) (meaning (q .reason) (q .steps) counter image)
+
+-- the most characters that it has
+abbrev pub longestSentence : ℕ
+longestSentence = 80

@@ -1,7 +1,8 @@
 // The line of a run's answer.
 ghost use Prim.Native.Nat.{_+_, _≤_};
 ghost use Rattle.text_writing.specs.Written.{Wrote};
-ghost use Rattle.sentences.specs.Line.{allFields, line};
+ghost use Rattle.sentences.specs.Line.{allFields, line, longestLine};
+use laws::answers::*;
 use manual::Ended;
 use text_writing::put_byte;
 use text_writing::put_decimal;
@@ -9,9 +10,12 @@ use text_writing::put_spaced_decimal;
 use text_writing::put_text;
 use trace_fields::put_machine;
 
+// The most characters that the line has.
+pub const LONGEST_LINE: usize = 64;
+
 fn put_fields(out: &mut [u8], at: usize, ended: Ended) -> usize
     ensures { λ r. ⌜ Wrote (now (out .entry)) at (allFields ended) (now (out .exit)) r ⌝ }
-    ensures { λ r. ⌜ r ≤ at + 64 ⌝ }
+    ensures { λ r. ⌜ r ≤ at + longestLine ⌝ }
 {
     let reason = ended.reason;
     let machine = ended.machine;
@@ -25,10 +29,10 @@ fn put_fields(out: &mut [u8], at: usize, ended: Ended) -> usize
 // Writes the line.
 pub fn put_line(out: &mut [u8], at: usize, ended: Ended) -> usize
     ensures { λ r. ⌜ Wrote (now (out .entry)) at (line ended) (now (out .exit)) r ⌝ }
-    ensures { λ r. ⌜ r ≤ at + 64 ⌝ }
+    ensures { λ r. ⌜ r ≤ at + longestLine ⌝ }
 {
     let reason = ended.reason;
-    if reason.number() == 1 {
+    if reason.number() == MEMORY_NOT_FULL {
         return put_text(out, at, b"1\n");
     }
     put_fields(out, at, ended)

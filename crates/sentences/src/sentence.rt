@@ -1,7 +1,7 @@
 // How a run ended, in words.
 ghost use Prim.Native.Nat.{_+_, _≤_};
 ghost use Rattle.text_writing.specs.Written.{Wrote};
-ghost use Rattle.sentences.specs.Sentence.{stop, running, refused, meaning, allMade, endedAt, done, sentence};
+ghost use Rattle.sentences.specs.Sentence.{stop, running, refused, meaning, allMade, endedAt, done, sentence, longestSentence};
 use image_halted::is_halted;
 use manual::Ended;
 use manual::Reason;
@@ -13,6 +13,9 @@ use text_writing::put_decimal;
 use text_writing::put_hex2;
 use text_writing::put_hex4;
 use text_writing::put_text;
+
+// The most characters that the sentence has.
+pub const LONGEST_SENTENCE: usize = 80;
 
 fn put_stop(out: &mut [u8], at: usize, byte: u8, counter: u16) -> usize
     ensures { λ r. ⌜ Wrote (now (out .entry)) at (stop byte counter) (now (out .exit)) r ⌝ }
@@ -26,7 +29,7 @@ fn put_stop(out: &mut [u8], at: usize, byte: u8, counter: u16) -> usize
 
 fn put_running(out: &mut [u8], at: usize, steps: u64) -> usize
     ensures { λ r. ⌜ Wrote (now (out .entry)) at (running steps) (now (out .exit)) r ⌝ }
-    ensures { λ r. ⌜ r ≤ at + 80 ⌝ }
+    ensures { λ r. ⌜ r ≤ at + longestSentence ⌝ }
 {
     let after_running = put_text(
         out,
@@ -40,7 +43,7 @@ fn put_running(out: &mut [u8], at: usize, steps: u64) -> usize
 // Writes what is said of an image that is not 65,536 bytes long.
 pub fn put_refused(out: &mut [u8], at: usize, image: &[u8]) -> usize
     ensures { λ r. ⌜ Wrote (now (out .entry)) at (refused (now (image .entry))) (now (out .exit)) r ⌝ }
-    ensures { λ r. ⌜ r ≤ at + 80 ⌝ }
+    ensures { λ r. ⌜ r ≤ at + longestSentence ⌝ }
 {
     if is_halted(image) {
         return put_text(
@@ -61,7 +64,7 @@ fn put_meaning(
     image: &[u8],
 ) -> usize
     ensures { λ r. ⌜ Wrote (now (out .entry)) at (meaning reason steps counter (now (image .entry))) (now (out .exit)) r ⌝ }
-    ensures { λ r. ⌜ r ≤ at + 80 ⌝ }
+    ensures { λ r. ⌜ r ≤ at + longestSentence ⌝ }
 {
     match reason {
         Reason::Made => put_running(out, at, steps),
@@ -82,7 +85,7 @@ fn put_meaning(
 
 fn put_all_made(out: &mut [u8], at: usize, steps: u64) -> usize
     ensures { λ r. ⌜ Wrote (now (out .entry)) at (allMade steps) (now (out .exit)) r ⌝ }
-    ensures { λ r. ⌜ r ≤ at + 80 ⌝ }
+    ensures { λ r. ⌜ r ≤ at + longestSentence ⌝ }
 {
     let after_done = put_text(out, at, b"done: all ");
     let after_steps = put_decimal(out, after_done, steps);
@@ -99,7 +102,7 @@ fn put_ended_at(out: &mut [u8], at: usize, counter: u16) -> usize
 
 fn put_done(out: &mut [u8], at: usize, reason: Reason, steps: u64, counter: u16) -> usize
     ensures { λ r. ⌜ Wrote (now (out .entry)) at (done reason steps counter) (now (out .exit)) r ⌝ }
-    ensures { λ r. ⌜ r ≤ at + 80 ⌝ }
+    ensures { λ r. ⌜ r ≤ at + longestSentence ⌝ }
 {
     if reason.is_made() {
         return put_all_made(out, at, steps);
@@ -110,7 +113,7 @@ fn put_done(out: &mut [u8], at: usize, reason: Reason, steps: u64, counter: u16)
 // Writes the sentence. `image` is the one that the run left: it may have changed the byte that stopped it.
 pub fn put_sentence(out: &mut [u8], at: usize, goal: Goal, ended: Ended, image: &[u8]) -> usize
     ensures { λ r. ⌜ Wrote (now (out .entry)) at (sentence goal ended (now (image .entry))) (now (out .exit)) r ⌝ }
-    ensures { λ r. ⌜ r ≤ at + 80 ⌝ }
+    ensures { λ r. ⌜ r ≤ at + longestSentence ⌝ }
 {
     let reason = ended.reason;
     let steps = ended.steps;

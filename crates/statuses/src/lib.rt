@@ -2,7 +2,8 @@
 ghost use Prim.Native.Nat.{_+_, _≤_};
 ghost use mathlib.Core.Path.{_≡_};
 ghost use Rattle.text_writing.specs.Written.{Wrote};
-ghost use Rattle.statuses.specs.Statuses.{reached as Statuses·reached, endStatus, checkStatus, rescueStatus, logStatus, firstOf, statusLine};
+ghost use Rattle.statuses.specs.Statuses.{reached as Statuses·reached, endStatus, checkStatus, rescueStatus, logStatus, firstOf, statusLine, longestStatus};
+use laws::answers::*;
 use manual::Ended;
 use manual::Reason;
 use text_writing::put_byte;
@@ -36,12 +37,12 @@ pub fn reached(goal: Goal, ended: Ended) -> bool
     match goal {
         Goal::Unnamed => false,
         Goal::At(address) => {
-            if number != 3 {
+            if number != NOT_AN_OPCODE {
                 return false;
             }
             ended.machine.registers.counter == address
         }
-        Goal::AllSteps => number == 0,
+        Goal::AllSteps => number == NOT_REFUSED,
     }
 }
 
@@ -54,7 +55,7 @@ pub fn end_status(goal: Goal, ended: Ended) -> u8
     }
     let reason = ended.reason;
     let number = reason.number();
-    if number == 0 {
+    if number == NOT_REFUSED {
         return STILL_RUNNING;
     }
     number
@@ -78,7 +79,7 @@ pub fn check_status(lines: u64, faults: u64) -> u8
 pub fn rescue_status(answer: u8, dropped: u64, read: u8) -> u8
     ensures { λ r. ⌜ r ≡ rescueStatus answer dropped read ⌝ }
 {
-    if answer != 0 {
+    if answer != NOT_REFUSED {
         return answer;
     }
     if dropped == 0 {
@@ -93,13 +94,13 @@ pub fn log_status(size: usize, answer: u8, lines: u64) -> u8
     ensures { λ r. ⌜ r ≡ logStatus size answer lines ⌝ }
 {
     if size != 65536 {
-        return 1;
+        return MEMORY_NOT_FULL;
     }
-    if answer != 0 {
+    if answer != NOT_REFUSED {
         return answer;
     }
     if lines == 0 {
-        return 11;
+        return MALFORMED_ENTRY;
     }
     0
 }
@@ -114,10 +115,13 @@ pub fn first_of(before: u8, now: u8) -> u8
     before
 }
 
+// The most characters that the line of a status has.
+pub const LONGEST_STATUS: usize = 16;
+
 // The line by which a program hands its status over.
 pub fn put_status(out: &mut [u8], at: usize, status: u8) -> usize
     ensures { λ r. ⌜ Wrote (now (out .entry)) at (statusLine status) (now (out .exit)) r ⌝ }
-    ensures { λ r. ⌜ r ≤ at + 16 ⌝ }
+    ensures { λ r. ⌜ r ≤ at + longestStatus ⌝ }
 {
     let after_word = put_text(out, at, b"status ");
     let after_number = put_decimal(out, after_word, status as u64);

@@ -11,6 +11,7 @@ use mathlib.Core.List.{List}
 use mathlib.Core.Option.{Option, none, some}
 use lib.Dec.{eqb, ltb}
 use lib.ListN.{getD, take, drop}
+use Rattle.laws.specs.Answers.{malformedRecord, wrongSum, pastTheEnd, noEnd}
 use Rattle.tape_records.specs.Records.{recordOf, count, address, total}
 use Rattle.tape_records.specs.Contents.{Item, stretch, finish, bad, Contents, contents, Loaded, readOnto}
 
@@ -23,19 +24,19 @@ rightSum bs = eqb (total bs % 256) 0
 -- a record of type 00, after so many data records
 abbrev pub dataItem : ℕ → List ℕ → Item
 dataItem before bs =
-    cond (eqb (count bs) 0) (bad 5)
-    (cond (not (rightSum bs)) (bad 6)
-    (cond (ltb 65536 (address bs + count bs)) (bad 7)
-    (cond (ltb before 65535) (stretch (record { first = address bs; bytes = take (count bs) (drop 4 bs) })) (bad 8))))
+    cond (eqb (count bs) 0) (bad malformedRecord)
+    (cond (not (rightSum bs)) (bad wrongSum)
+    (cond (ltb 65536 (address bs + count bs)) (bad pastTheEnd)
+    (cond (ltb before 65535) (stretch (record { first = address bs; bytes = take (count bs) (drop 4 bs) })) (bad noEnd))))
 
 -- one of type 01
 abbrev pub endItem : List ℕ → Item
-endItem bs = cond (not (rightSum bs)) (bad 6) (cond (eqb (count bs) 0) (cond (eqb (address bs) 0) finish (bad 5)) (bad 5))
+endItem bs = cond (not (rightSum bs)) (bad wrongSum) (cond (eqb (count bs) 0) (cond (eqb (address bs) 0) finish (bad malformedRecord)) (bad malformedRecord))
 
 -- a record's bytes
 abbrev pub judge : ℕ → Option (List ℕ) → Item
-judge before none = bad 5
-judge before (some bs) = cond (eqb (type bs) 0) (dataItem before bs) (cond (eqb (type bs) 1) (endItem bs) (bad 5))
+judge before none = bad malformedRecord
+judge before (some bs) = cond (eqb (type bs) 0) (dataItem before bs) (cond (eqb (type bs) 1) (endItem bs) (bad malformedRecord))
 
 -- `:` is the character 58
 unfoldable pub hexItem : ℕ → List ℕ → Item

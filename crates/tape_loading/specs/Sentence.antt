@@ -3,6 +3,7 @@ use Prim.Native.Nat.{ℕ}
 use mathlib.Core.Bool.{cond}
 use mathlib.Core.List.{List, _++_}
 use lib.Dec.{eqb}
+use Rattle.laws.specs.Answers.{notRefused, memoryNotFull, malformedRecord, wrongSum, pastTheEnd}
 use Rattle.laws.specs.Characters.{characters}
 use Rattle.text_writing.specs.Numerals.{decimal}
 use Rattle.tape_loading.specs.declared.Format.{Format}
@@ -20,9 +21,9 @@ unended Hex = characters "no end record, or more than 65535 data records\n"
 
 abbrev pub reason : Format → ℕ → List ℕ
 reason f answer =
-    cond (eqb answer 5) (malformed f)
-    (cond (eqb answer 6) (characters "a wrong sum\n")
-    (cond (eqb answer 7) (characters "past FFFF\n")
+    cond (eqb answer malformedRecord) (malformed f)
+    (cond (eqb answer wrongSum) (characters "a wrong sum\n")
+    (cond (eqb answer pastTheEnd) (characters "past FFFF\n")
     (unended f)))
 
 abbrev pub goodSentence : ℕ → List ℕ
@@ -38,5 +39,9 @@ badSentence f v =
 
 unfoldable pub sentence : Format → Verdict → List ℕ
 sentence f v =
-    cond (eqb (v .answer) 0) (goodSentence (v .good))
-    (cond (eqb (v .answer) 1) (characters "refused: the image is not 65536 bytes long\n") (badSentence f v))
+    cond (eqb (v .answer) notRefused) (goodSentence (v .good))
+    (cond (eqb (v .answer) memoryNotFull) (characters "refused: the image is not 65536 bytes long\n") (badSentence f v))
+
+-- the most characters that it has
+abbrev pub longestSentence : ℕ
+longestSentence = 160

@@ -9,14 +9,16 @@ ghost use Rattle.tape_loading.specs.Inner.Formats.{itemOf, headSize, con
 ghost use Rattle.tape_loading.specs.Inner.Following.{stopAt, nextOf};
 ghost use Rattle.tape_loading.specs.Answers.{verdictOf, withMemory};
 ghost use Rattle.tape_loading.specs.Texts.{formatOf, readText};
+use laws::answers::*;
 use manual::FULL_MEMORY;
 use tape_records::Item;
-use tape_records::rest;
 use tape_records::skip_separators;
 use tape_records::store_bytes;
+use text_reading::rest;
 
 mod sentence; // sentence.rt: what a reader found, in words
 
+pub use sentence::LONGEST_SENTENCE;
 pub use sentence::put_sentence;
 
 // The formats: MOS paper tape, and Intel HEX.
@@ -83,7 +85,7 @@ pub fn next_record(format: Format, text: &[u8], start: usize, before: u64) -> Ne
     let size = text.len();
     let at = skip_separators(text, start);
     if size <= at {
-        return stop(8, before, size);
+        return stop(NO_END, before, size);
     }
     let item = read_item(format, rest(text, at), before);
     match item {
@@ -91,9 +93,9 @@ pub fn next_record(format: Format, text: &[u8], start: usize, before: u64) -> Ne
         Item::End => {
             let end = skip_separators(text, at + 11);
             if end < size {
-                return stop(5, before + 1, end);
+                return stop(MALFORMED_RECORD, before + 1, end);
             }
-            stop(0, before + 1, size)
+            stop(NOT_REFUSED, before + 1, size)
         }
         Item::Data { address, count } => {
             let head = head_size(format);
@@ -142,14 +144,14 @@ fn read(format: Format, text: &[u8], memory: &mut [u8]) -> Verdict
 {
     if memory.len() != FULL_MEMORY {
         return Verdict {
-            answer: 1,
+            answer: MEMORY_NOT_FULL,
             good: 0,
             place: 0,
         };
     }
     let mut nothing = [0u8; 0];
     let verdict = lay(format, text, &mut nothing);
-    if verdict.answer != 0 {
+    if verdict.answer != NOT_REFUSED {
         return verdict;
     }
     lay(format, text, memory)

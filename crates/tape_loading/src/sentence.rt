@@ -1,13 +1,17 @@
 // What a reader found, in words.
 ghost use Prim.Native.Nat.{_+_, _≤_};
 ghost use Rattle.text_writing.specs.Written.{Wrote};
-ghost use Rattle.tape_loading.specs.Sentence.{malformed, unended, reason, goodSentence, goodRecords, badSentence, sentence};
+ghost use Rattle.tape_loading.specs.Sentence.{malformed, unended, reason, goodSentence, goodRecords, badSentence, sentence, longestSentence};
 use crate::Format;
 use crate::Verdict;
+use laws::answers::*;
 use text_writing::put_decimal;
 use text_writing::put_text;
 
-// The answer 5.
+// The most characters that the sentence has.
+pub const LONGEST_SENTENCE: usize = 160;
+
+// A malformed record.
 fn put_malformed(out: &mut [u8], at: usize, format: Format) -> usize
     ensures { λ r. ⌜ Wrote (now (out .entry)) at (malformed format) (now (out .exit)) r ⌝ }
 {
@@ -21,7 +25,7 @@ fn put_malformed(out: &mut [u8], at: usize, format: Format) -> usize
     }
 }
 
-// The answer 8.
+// No end.
 fn put_unended(out: &mut [u8], at: usize, format: Format) -> usize
     ensures { λ r. ⌜ Wrote (now (out .entry)) at (unended format) (now (out .exit)) r ⌝ }
 {
@@ -35,13 +39,13 @@ fn put_unended(out: &mut [u8], at: usize, format: Format) -> usize
 fn put_reason(out: &mut [u8], at: usize, format: Format, answer: u8) -> usize
     ensures { λ r. ⌜ Wrote (now (out .entry)) at (reason format answer) (now (out .exit)) r ⌝ }
 {
-    if answer == 5 {
+    if answer == MALFORMED_RECORD {
         return put_malformed(out, at, format);
     }
-    if answer == 6 {
+    if answer == WRONG_SUM {
         return put_text(out, at, b"a wrong sum\n");
     }
-    if answer == 7 {
+    if answer == PAST_THE_END {
         return put_text(out, at, b"past FFFF\n");
     }
     put_unended(out, at, format)
@@ -79,16 +83,16 @@ fn put_bad(out: &mut [u8], at: usize, format: Format, verdict: Verdict) -> usize
     put_reason(out, after_characters, format, verdict.answer)
 }
 
-// Writes the sentence about a text of a format, which has at most 160 characters.
+// Writes the sentence about a text of a format.
 pub fn put_sentence(out: &mut [u8], at: usize, format: Format, verdict: Verdict) -> usize
     ensures { λ r. ⌜ Wrote (now (out .entry)) at (sentence format verdict) (now (out .exit)) r ⌝ }
-    ensures { λ r. ⌜ r ≤ at + 160 ⌝ }
+    ensures { λ r. ⌜ r ≤ at + longestSentence ⌝ }
 {
     let answer = verdict.answer;
-    if answer == 0 {
+    if answer == NOT_REFUSED {
         return put_good(out, at, verdict.good);
     }
-    if answer == 1 {
+    if answer == MEMORY_NOT_FULL {
         return put_text(out, at, b"refused: the image is not 65536 bytes long\n");
     }
     put_bad(out, at, format, verdict)

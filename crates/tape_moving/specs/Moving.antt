@@ -4,6 +4,7 @@ use mathlib.Core.Bool.{cond}
 use mathlib.Core.List.{List}
 use lib.Dec.{eqb}
 use lib.ListN.{length, take}
+use Rattle.laws.specs.Answers.{notRefused}
 use Rattle.text_writing.specs.Delivered.{Delivered, refused, delivered}
 use Rattle.tape_records.specs.Contents.{Contents}
 use Rattle.tape_paper.specs.Tapes.{tapeOf}
@@ -34,7 +35,7 @@ foundIn s c d = record { answer = d .answer; size = d .size; good = c .good; pla
 
 -- moved as the text t; a bad text is refused before a short buffer
 abbrev pub movedAs : List ℕ → Contents → List ℕ → List ℕ → Outcome
-movedAs s c t buffer = foundIn s c (cond (eqb (c .answer) 0) (delivered t buffer) (refused (c .answer) buffer))
+movedAs s c t buffer = foundIn s c (cond (eqb (c .answer) notRefused) (delivered t buffer) (refused (c .answer) buffer))
 
 unfoldable pub tapeToHex : List ℕ → List ℕ → Outcome
 tapeToHex s buffer = movedAs s (tapeOf s) (hexText 0 (tapeOf s .records)) buffer

@@ -7,13 +7,14 @@ ghost use Rattle.tape_loading.specs.Inner.Formats.{contentsOf};
 ghost use Rattle.tape_moving.specs.Moving.{withText, tapeToHex, hexToTape, movedFrom};
 ghost use Rattle.tape_moving.specs.Inner.Lines.{sumFrom, tapeLine, hexLine, lineOf, endOf, moved};
 ghost use Rattle.tape_moving.specs.Inner.Passing.{Passed};
+use laws::answers::*;
 use tape_loading::Format;
 use tape_loading::Next;
 use tape_loading::Verdict;
 use tape_loading::next_record;
 use tape_paper::put_end;
 use tape_records::read_sum;
-use tape_records::rest;
+use text_reading::rest;
 use text_writing::put_byte;
 use text_writing::put_hex2;
 use text_writing::put_hex4;
@@ -135,7 +136,7 @@ fn put_records(from: Format, to: Format, text: &[u8], out: &mut [u8]) -> Moved
         let next = next_record(from, text, at, before);
         match next {
             Next::Stop(found) => {
-                if found.answer != 0 {
+                if found.answer != NOT_REFUSED {
                     return Moved {
                         verdict: found,
                         size: 0,
@@ -170,7 +171,7 @@ fn deliver(from: Format, to: Format, text: &[u8], out: &mut [u8]) -> Moved
     let mut nowhere = [0u8; 0];
     let measured = put_records(from, to, text, &mut nowhere);
     let verdict = measured.verdict;
-    if verdict.answer != 0 {
+    if verdict.answer != NOT_REFUSED {
         return Moved {
             verdict: verdict,
             size: 0,
@@ -179,7 +180,7 @@ fn deliver(from: Format, to: Format, text: &[u8], out: &mut [u8]) -> Moved
     if out.len() < measured.size {
         return Moved {
             verdict: Verdict {
-                answer: 10,
+                answer: NO_ROOM,
                 good: verdict.good,
                 place: verdict.place,
             },

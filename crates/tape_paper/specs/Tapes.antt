@@ -10,6 +10,7 @@ use mathlib.Core.List.{List}
 use mathlib.Core.Option.{Option, none, some}
 use lib.Dec.{eqb, ltb}
 use lib.ListN.{take, drop}
+use Rattle.laws.specs.Answers.{malformedRecord, wrongSum, pastTheEnd, noEnd}
 use Rattle.tape_records.specs.Records.{recordOf, count, address, sum, last}
 use Rattle.tape_records.specs.Contents.{Item, stretch, finish, bad, Contents, contents, Loaded, readOnto}
 
@@ -19,11 +20,11 @@ rightSum bs = eqb (sum bs) (last bs)
 
 -- a record's bytes, after so many data records
 abbrev pub judge : ℕ → Option (List ℕ) → Item
-judge before none = bad 5
+judge before none = bad malformedRecord
 judge before (some bs) =
-    cond (not (rightSum bs)) (bad 6)
-    (cond (eqb (count bs) 0) (cond (eqb (address bs) before) finish (bad 8))
-    (cond (ltb 65536 (address bs + count bs)) (bad 7)
+    cond (not (rightSum bs)) (bad wrongSum)
+    (cond (eqb (count bs) 0) (cond (eqb (address bs) before) finish (bad noEnd))
+    (cond (ltb 65536 (address bs + count bs)) (bad pastTheEnd)
     (stretch (record { first = address bs; bytes = take (count bs) (drop 3 bs) }))))
 
 -- `;` is the character 59

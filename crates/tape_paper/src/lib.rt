@@ -9,6 +9,7 @@ ghost use Rattle.tape_records.specs.Grammar.{newline};
 ghost use Rattle.tape_paper.specs.Tapes.{tapeItem};
 ghost use Rattle.tape_paper.specs.Inner.Items.{toldBy};
 ghost use Rattle.tape_paper.specs.Grammar.{recordText};
+use laws::answers::*;
 use tape_records::Found;
 use tape_records::Item;
 use tape_records::Parts;
@@ -28,16 +29,16 @@ pub fn judge(parts: Parts, before: u64) -> Item
     ensures { λ r. ⌜ r ≡ toldBy before parts ⌝ }
 {
     if parts.sum != parts.last {
-        return Item::Bad(6);
+        return Item::Bad(WRONG_SUM);
     }
     if parts.count == 0 {
         if parts.address as u64 == before {
             return Item::End;
         }
-        return Item::Bad(8);
+        return Item::Bad(NO_END);
     }
     if 65536 < (parts.address as u32) + (parts.count as u32) {
-        return Item::Bad(7);
+        return Item::Bad(PAST_THE_END);
     }
     Item::Data {
         address: parts.address,
@@ -50,7 +51,7 @@ pub fn read_item(text: &[u8], before: u64) -> Item
     ensures { λ r. ⌜ r ≡ told (tapeItem before (now (text .entry))) ⌝ }
 {
     match read_record(text, b';') {
-        Found::Malformed => Item::Bad(5),
+        Found::Malformed => Item::Bad(MALFORMED_RECORD),
         Found::Record(parts) => judge(parts, before),
     }
 }

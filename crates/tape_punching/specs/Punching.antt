@@ -5,6 +5,7 @@ use mathlib.Core.List.{List, [], _∷_}
 use lib.Dec.{eqb, ltb}
 use lib.ListN.{length, take}
 use lib.Seq.{slice}
+use Rattle.laws.specs.Answers.{memoryNotFull, firstAboveLast}
 use Rattle.manual.specs.Stepping.{fullMemory}
 use Rattle.text_writing.specs.Delivered.{Delivered, refused, delivered}
 use Rattle.tape_records.specs.Contents.{Stretch}
@@ -24,8 +25,12 @@ stretchOf m first last = slice first (suc last) m
 unfoldable pub tapeFrom : List ℕ → ℕ → ℕ → List ℕ
 tapeFrom m first last = tapeText 0 (cut first 0 (stretchOf m first last))
 
+-- the characters of the whole memory's tape, and the most that one has
+abbrev pub longestTape : ℕ
+longestTape = 166588
+
 -- the text in a buffer, with the refusals in their order
 unfoldable pub tapeInto : List ℕ → ℕ → ℕ → List ℕ → Delivered
 tapeInto m first last buffer =
-    cond (not (eqb (length m) fullMemory)) (refused 1 buffer)
-    (cond (ltb last first) (refused 9 buffer) (delivered (tapeFrom m first last) buffer))
+    cond (not (eqb (length m) fullMemory)) (refused memoryNotFull buffer)
+    (cond (ltb last first) (refused firstAboveLast buffer) (delivered (tapeFrom m first last) buffer))

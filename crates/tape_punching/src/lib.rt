@@ -10,6 +10,7 @@ ghost use Rattle.tape_records.specs.Records.{total, hexes};
 ghost use Rattle.tape_records.specs.Grammar.{newline};
 ghost use Rattle.tape_paper.specs.Grammar.{recordText, tapeText};
 ghost use Rattle.tape_punching.specs.Punching.{cut, tapeInto};
+use laws::answers::*;
 use manual::FULL_MEMORY;
 use tape_paper::put_end;
 use text_writing::Delivery;
@@ -95,20 +96,20 @@ pub fn punch(memory: &[u8], first: u16, last: u16, text: &mut [u8]) -> Delivery
     ensures { λ r. ⌜ r .size ≤ length (now (text .entry)) ⌝ }
 {
     if memory.len() != FULL_MEMORY {
-        return Delivery::refused(1);
+        return Delivery::refused(MEMORY_NOT_FULL);
     }
     if last < first {
-        return Delivery::refused(9);
+        return Delivery::refused(FIRST_ABOVE_LAST);
     }
     let end = (last as usize) + 1;
     let mut nowhere = [0u8; 0];
     let size = put_tape(&mut nowhere, 0, memory, first as usize, end);
     if text.len() < size {
-        return Delivery::refused(10);
+        return Delivery::refused(NO_ROOM);
     }
     let written = put_tape(text, 0, memory, first as usize, end);
     Delivery {
-        answer: 0,
+        answer: NOT_REFUSED,
         size: written,
     }
 }

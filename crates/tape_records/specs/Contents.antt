@@ -5,6 +5,7 @@ use mathlib.Core.List.{List, [], _∷_}
 use lib.Dec.{eqb}
 use lib.ListN.{length, drop}
 use lib.Seq.{sets}
+use Rattle.laws.specs.Answers.{notRefused, memoryNotFull, malformedRecord, noEnd}
 use Rattle.manual.specs.Stepping.{fullMemory}
 use Rattle.tape_records.specs.Records.{separator}
 
@@ -35,8 +36,8 @@ andThen r c = record { records = r ∷ (c .records); answer = c .answer; good = 
 
 -- what follows the end record: separators alone, or a stray character
 abbrev pub ended : ℕ → List ℕ → Contents
-ended good [] = stop 0 good 0
-ended good (c ∷ s) = cond (separator c) (ended good s) (stop 5 good (length (c ∷ s)))
+ended good [] = stop notRefused good 0
+ended good (c ∷ s) = cond (separator c) (ended good s) (stop malformedRecord good (length (c ∷ s)))
 
 -- the contents from a record on, which has 11 characters and two for each data byte, after `count` data records; `more n` is what follows, n
 -- characters being passed over
@@ -48,7 +49,7 @@ judged (stretch r) count s more = andThen r (more (10 + 2 * length (r .bytes)))
 -- the contents from here on. The first `passed` characters belong to a record that is read, and `count` data records stand before; `item`
 -- is the format: what the record at the head of a text is, after so many data records
 abbrev pub contents : (ℕ → List ℕ → Item) → ℕ → ℕ → List ℕ → Contents
-contents item passed count [] = stop 8 count 0
+contents item passed count [] = stop noEnd count 0
 contents item (suc passed) count (c ∷ s) = contents item passed count s
 contents item zero count (c ∷ s) =
     cond (separator c) (contents item 0 count s) (judged (item count (c ∷ s)) count (c ∷ s) (λ passed. contents item passed (count + 1) s))
@@ -72,5 +73,5 @@ outcome s c m = record { answer = c .answer; good = c .good; place = length s - 
 -- the text s with the contents c read onto a memory, which is left as it was unless all is good
 abbrev pub readOnto : List ℕ → Contents → List ℕ → Loaded
 readOnto s c m =
-    cond (not (eqb (length m) fullMemory)) (record { answer = 1; good = 0; place = 0; memory = m })
-    (outcome s c (cond (eqb (c .answer) 0) (laid (c .records) m) m))
+    cond (not (eqb (length m) fullMemory)) (record { answer = memoryNotFull; good = 0; place = 0; memory = m })
+    (outcome s c (cond (eqb (c .answer) notRefused) (laid (c .records) m) m))

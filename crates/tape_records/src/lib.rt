@@ -37,14 +37,6 @@ pub enum Item {
     Bad(u8),
 }
 
-// The text from a place on; nothing if that lies past the end.
-pub fn rest(text: &[u8], at: usize) -> &[u8]
-    ensures { λ r. ⌜ now r ≡ drop at (now (text .entry)) ⌝ }
-{
-    let end = text.len();
-    if at < end { &text[at..] } else { &text[end..] }
-}
-
 // The sum of a record's first bytes, which stand after its mark.
 pub fn read_sum(text: &[u8], count: u16) -> Sum
     ensures { λ r. ⌜ r ≡ summed 0 1 (bytesOf count (drop 1 (now (text .entry)))) ⌝ }

@@ -7,6 +7,7 @@ use mathlib.Core.Option.{Option, none, some}
 use lib.Dec.{eqb, ltb}
 use lib.ListN.{length}
 use lib.Seq.{sets}
+use Rattle.laws.specs.Answers.{notRefused, malformedRecord, noEnd, noRoom}
 use Rattle.tape_records.specs.Records.{recordOf, address}
 use Rattle.tape_records.specs.Contents.{Stretch, Item, stretch, finish, bad}
 use Rattle.tape_paper.specs.Tapes.{judge}
@@ -15,7 +16,7 @@ use Rattle.tape_rescuing.specs.declared.Rescued.{Rescued}
 
 -- a record by itself: an end record's number is not looked at, so it is judged as if it were right
 abbrev pub worth : Option (List ℕ) → Item
-worth none = bad 5
+worth none = bad malformedRecord
 worth (some bs) = judge (address bs) (some bs)
 
 -- the records kept, how many are dropped, and the offset of the first of these
@@ -55,7 +56,7 @@ refused answer buffer = record { answer = answer; size = 0; kept = 0; dropped = 
 abbrev pub restored : Saved → List ℕ → Outcome
 restored x buffer =
     record {
-      answer = 0;
+      answer = notRefused;
       size = length (tapeText 0 (x .records));
       kept = length (x .records);
       dropped = x .dropped;
@@ -66,6 +67,6 @@ restored x buffer =
 -- the same with the refusals in their order
 unfoldable pub rescued : List ℕ → List ℕ → Outcome
 rescued s buffer =
-    cond (ltb 65535 (length (saved 0 s .records))) (refused 8 buffer)
-    (cond (ltb (length buffer) (length (tapeText 0 (saved 0 s .records)))) (refused 10 buffer)
+    cond (ltb 65535 (length (saved 0 s .records))) (refused noEnd buffer)
+    (cond (ltb (length buffer) (length (tapeText 0 (saved 0 s .records)))) (refused noRoom buffer)
     (restored (saved 0 s) buffer))

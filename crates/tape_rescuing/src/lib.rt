@@ -11,16 +11,18 @@ ghost use Rattle.tape_records.specs.Grammar.{newline};
 ghost use Rattle.tape_records.specs.Inner.Items.{told};
 ghost use Rattle.tape_rescuing.specs.Rescuing.{worth, saved, rescued, withText};
 ghost use Rattle.tape_rescuing.specs.Inner.Passing.{Passed};
+use laws::answers::*;
 use tape_paper::judge;
 use tape_paper::put_end;
 use tape_records::Found;
 use tape_records::Item;
 use tape_records::read_record;
-use tape_records::rest;
+use text_reading::rest;
 use text_writing::put_text;
 
 mod sentence; // sentence.rt: what was saved, in words
 
+pub use sentence::LONGEST_SENTENCE;
 pub use sentence::put_sentence;
 
 // The answer, the length of the text at the start of the buffer, how many records were kept and dropped, and where the
@@ -46,7 +48,7 @@ fn read_worth(text: &[u8]) -> Item
     ensures { λ r. ⌜ r ≡ told (worth (recordOf 59 (now (text .entry)))) ⌝ }
 {
     match read_record(text, b';') {
-        Found::Malformed => Item::Bad(5),
+        Found::Malformed => Item::Bad(MALFORMED_RECORD),
         Found::Record(parts) => judge(parts, parts.address as u64),
     }
 }
@@ -140,14 +142,14 @@ pub fn rescue(text: &[u8], out: &mut [u8]) -> Rescued
     let mut nowhere = [0u8; 0];
     let measured = put_saved(&mut nowhere, text);
     if 65535 < measured.kept {
-        return refusal(8);
+        return refusal(NO_END);
     }
     if out.len() < measured.size {
-        return refusal(10);
+        return refusal(NO_ROOM);
     }
     let pass = put_saved(out, text);
     Rescued {
-        answer: 0,
+        answer: NOT_REFUSED,
         size: pass.size,
         kept: pass.kept,
         dropped: pass.dropped,

@@ -4,6 +4,7 @@
 // something else that place is NOWHERE, at which every reader fails again: a caller tests for it once, at the end.
 ghost use mathlib.Core.Path.{_≡_};
 ghost use Prim.Native.Nat.{_≤_, _<_};
+ghost use lib.ListN.{drop};
 ghost use Rattle.text_reading.specs.Numbers.{digitValue, digitAt, byteAt, wordAt, countAt, markAt, wholeWord, wholeCount};
 
 // A place past every text: the largest usize.
@@ -25,6 +26,14 @@ pub struct Word {
 pub struct Count {
     pub value: u64,
     pub next: usize,
+}
+
+// The text from a place on; nothing if that lies past the end.
+pub fn rest(text: &[u8], at: usize) -> &[u8]
+    ensures { λ r. ⌜ now r ≡ drop at (now (text .entry)) ⌝ }
+{
+    let end = text.len();
+    if at < end { &text[at..] } else { &text[end..] }
 }
 
 // The value of a digit, 16 for any other character. Lower case is no digit.

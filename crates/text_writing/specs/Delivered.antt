@@ -5,6 +5,7 @@ use mathlib.Core.List.{List}
 use lib.Dec.{ltb}
 use lib.ListN.{length}
 use lib.Seq.{sets}
+use Rattle.laws.specs.Answers.{notRefused, noRoom}
 use Rattle.text_writing.specs.declared.Delivery.{Delivery}
 
 -- an answer, the length of the text, and the buffer with the text at its start
@@ -24,5 +25,5 @@ refused answer buffer = record { answer = answer; size = 0; buffer = buffer }
 -- a text in a buffer that holds it; in a shorter one nothing is written
 abbrev pub delivered : List ℕ → List ℕ → Delivered
 delivered t buffer =
-    cond (ltb (length buffer) (length t)) (refused 10 buffer)
-    (record { answer = 0; size = length t; buffer = sets buffer 0 t })
+    cond (ltb (length buffer) (length t)) (refused noRoom buffer)
+    (record { answer = notRefused; size = length t; buffer = sets buffer 0 t })

@@ -9,6 +9,7 @@ use mathlib.Core.Bool.{Bool, true, false, cond}
 use mathlib.Core.List.{List, [], _∷_}
 use lib.Dec.{eqb}
 use lib.ListN.{length}
+use Rattle.laws.specs.Answers.{notRefused, memoryNotFull, malformedEntry, strayEntry}
 use Rattle.manual.specs.declared.Machine.{Machine}
 use Rattle.manual.specs.Stepping.{fullMemory}
 use Rattle.trace_line.specs.declared.Line.{Line}
@@ -36,16 +37,16 @@ accepted (After s) next m = followed s next m
 -- `more` goes on with the memory after an accepted entry
 abbrev pub ifAccepted : ℕ → Last → (List ℕ → Part × List ℕ) → Bool × List ℕ → Part × List ℕ
 ifAccepted lines last more (true, m) = more m
-ifAccepted lines last more (false, m) = (partOf 12 lines last, m)
+ifAccepted lines last more (false, m) = (partOf strayEntry lines last, m)
 
 -- the next entry: `more` goes on after so many characters, with its state
 abbrev pub judged : ℕ → Last → List ℕ → (ℕ → Machine → List ℕ → Part × List ℕ) → Line → Part × List ℕ
-judged lines last m more Malformed = (partOf 11 lines last, m)
+judged lines last m more Malformed = (partOf malformedEntry lines last, m)
 judged lines last m more (State q) = ifAccepted lines last (more (q .next) (q .machine)) (accepted last (q .machine) m)
 
 -- the entries from here on, after `lines` accepted ones, of which the first `passed` characters belong to the last one
 unfoldable pub later : ℕ → ℕ → Last → List ℕ → List ℕ → Part × List ℕ
-later passed lines last m [] = (partOf 0 lines last, m)
+later passed lines last m [] = (partOf notRefused lines last, m)
 later (suc passed) lines last m (c ∷ text) = later passed lines last m text
 later zero lines last m (c ∷ text) =
     judged lines last m (λ size t m′. later (size - 1) (lines + 1) (After t) m′ text) (lineOf (c ∷ text))
@@ -56,7 +57,7 @@ checkedPart last m text = later 0 0 last m text
 
 -- the whole: if no entry is accepted and none is bad, there is none
 abbrev pub closed : ℕ → ℕ → Checked
-closed answer lines = cond (eqb answer 0) (cond (eqb lines 0) (checkedOf 11 1) (checkedOf 0 0)) (checkedOf answer (lines + 1))
+closed answer lines = cond (eqb answer notRefused) (cond (eqb lines 0) (checkedOf malformedEntry 1) (checkedOf notRefused 0)) (checkedOf answer (lines + 1))
 
 abbrev pub closing : Part × List ℕ → Checked × List ℕ
 closing w = (closed (w .0 .answer) (w .0 .lines), w .1)
@@ -65,5 +66,5 @@ closing w = (closed (w .0 .answer) (w .0 .lines), w .1)
 unfoldable pub checkedTrace : List ℕ → List ℕ → List ℕ → Checked × List ℕ
 checkedTrace image text copy =
     cond (eqb (length image) fullMemory)
-    (cond (eqb (length copy) fullMemory) (closing (checkedPart Start image text)) (checkedOf 1 0, copy))
-    (checkedOf 1 0, copy)
+    (cond (eqb (length copy) fullMemory) (closing (checkedPart Start image text)) (checkedOf memoryNotFull 0, copy))
+    (checkedOf memoryNotFull 0, copy)

@@ -4,6 +4,7 @@ use mathlib.Core.Path.{_≡_}
 use mathlib.Core.Logic.{_⊎_}
 use mathlib.Core.List.{List, [], _∷_, _++_}
 use lib.ListN.{length}
+use Rattle.laws.specs.Answers.{notRefused, memoryNotFull, malformedEntry, strayEntry}
 use Rattle.manual.specs.declared.Machine.{Machine}
 use Rattle.manual.specs.Stepping.{fullMemory}
 use Rattle.trace_line.specs.Lines.{Spellable, lineText}
@@ -56,30 +57,30 @@ pub record Accepted (last : Last) (m text : List ℕ) (l : List Machine) (last�
 -- a part of a trace, after k entries: all entries are accepted, or the first bad one follows the accepted ones
 pub data PartVerdict (k : ℕ) (last : Last) (m text : List ℕ) (o : Part × List ℕ) : Type 0 where
   all : (l : List Machine) (last′ : Last) (m′ : List ℕ) → Accepted last m text l last′ m′ []
-      → o ≡ (partOf 0 (k + length l) last′, m′)
+      → o ≡ (partOf notRefused (k + length l) last′, m′)
       → PartVerdict k last m text o
   malformed : (l : List Machine) (last′ : Last) (m′ rest : List ℕ) → Accepted last m text l last′ m′ rest → 0 < length rest → NoLine rest
-      → o ≡ (partOf 11 (k + length l) last′, m′)
+      → o ≡ (partOf malformedEntry (k + length l) last′, m′)
       → PartVerdict k last m text o
   astray : (l : List Machine) (last′ : Last) (m′ : List ℕ) (t : Machine) (rest : List ℕ) → Accepted last m text l last′ m′ (lineText t ++ rest)
       → Spellable t → ((e : List ℕ) → Admits last′ m′ t e → ⊥)
-      → o ≡ (partOf 12 (k + length l) last′, m′)
+      → o ≡ (partOf strayEntry (k + length l) last′, m′)
       → PartVerdict k last m text o
 
 -- the whole check, in the words of the rules
 pub data Verdict (image text copy : List ℕ) (o : Checked × List ℕ) : Type 0 where
   -- 1: nothing is written
-  not-full : ((length image ≡ fullMemory) × (length copy ≡ fullMemory) → ⊥) → o ≡ (checkedOf 1 0, copy) → Verdict image text copy o
+  not-full : ((length image ≡ fullMemory) × (length copy ≡ fullMemory) → ⊥) → o ≡ (checkedOf memoryNotFull 0, copy) → Verdict image text copy o
   -- 0: the copy is left as the last entry leaves it
-  accepted : length image ≡ fullMemory → length copy ≡ fullMemory → (m′ : List ℕ) → Log image text m′ → o ≡ (checkedOf 0 0, m′) → Verdict image text copy o
+  accepted : length image ≡ fullMemory → length copy ≡ fullMemory → (m′ : List ℕ) → Log image text m′ → o ≡ (checkedOf notRefused 0, m′) → Verdict image text copy o
   -- 11: the entry after the accepted ones is malformed or cut short, or there is no entry at all
   bad-line : length image ≡ fullMemory → length copy ≡ fullMemory
       → (l : List Machine) (last : Last) (m′ rest : List ℕ) → Accepted Start image text l last m′ rest → (0 < length rest) ⊎ (l ≡ []) → NoLine rest
-      → o ≡ (checkedOf 11 (length l + 1), m′)
+      → o ≡ (checkedOf malformedEntry (length l + 1), m′)
       → Verdict image text copy o
   -- 12: it is not the state after a step, or none can be made
   bad-state : length image ≡ fullMemory → length copy ≡ fullMemory
       → (l : List Machine) (last : Last) (m′ : List ℕ) (t : Machine) (rest : List ℕ) → Accepted Start image text l last m′ (lineText t ++ rest)
       → Spellable t → ((e : List ℕ) → Admits last m′ t e → ⊥)
-      → o ≡ (checkedOf 12 (length l + 1), m′)
+      → o ≡ (checkedOf strayEntry (length l + 1), m′)
       → Verdict image text copy o

@@ -5,6 +5,7 @@ ghost use Prim.Native.Nat.{_≤_, _<_};
 ghost use lib.ListN.{length};
 ghost use Rattle.trace_checking.specs.Inner.Cutting.{wholeEnd};
 ghost use Rattle.trace_checking.specs.Checking.{partOf, checkedOf, accepted, checkedPart, closed, checkedTrace};
+use laws::answers::*;
 use manual::FULL_MEMORY;
 use manual::Machine;
 use trace_line::Line;
@@ -84,15 +85,15 @@ pub fn check_part(start: Last, part: &[u8], copy: &mut [u8]) -> Part
                     at = spelled.next;
                     lines += 1;
                 } else {
-                    return Part::new(12, lines, last);
+                    return Part::new(STRAY_ENTRY, lines, last);
                 }
             }
             Line::Malformed => {
-                return Part::new(11, lines, last);
+                return Part::new(MALFORMED_ENTRY, lines, last);
             }
         }
     }
-    Part::new(0, lines, last)
+    Part::new(NOT_REFUSED, lines, last)
 }
 
 // The place after the last LF of a text: so far it consists of whole entries.
@@ -116,13 +117,13 @@ fn close(answer: u8, lines: usize) -> Checked
     requires { ⌜ lines < 18446744073709551615 ⌝ }
     ensures { λ r. ⌜ r ≡ closed answer lines ⌝ }
 {
-    if answer != 0 {
+    if answer != NOT_REFUSED {
         return Checked::new(answer, lines + 1);
     }
     if lines == 0 {
-        return Checked::new(11, 1);
+        return Checked::new(MALFORMED_ENTRY, 1);
     }
-    Checked::new(0, 0)
+    Checked::new(NOT_REFUSED, 0)
 }
 
 fn copy_image(image: &[u8], copy: &mut [u8])
@@ -142,10 +143,10 @@ pub fn check_trace(image: &[u8], lines: &[u8], copy: &mut [u8]) -> Checked
     ensures { λ r. ⌜ (r, now (copy .exit)) ≡ checkedTrace (now (image .entry)) (now (lines .entry)) (now (copy .entry)) ⌝ }
 {
     if image.len() != FULL_MEMORY {
-        return Checked::new(1, 0);
+        return Checked::new(MEMORY_NOT_FULL, 0);
     }
     if copy.len() != FULL_MEMORY {
-        return Checked::new(1, 0);
+        return Checked::new(MEMORY_NOT_FULL, 0);
     }
     copy_image(image, copy);
     let part = check_part(Last::Start, lines, copy);

@@ -16,3 +16,7 @@ pub record Spellable (s : Machine) : Type 0 where
 
 abbrev pub lineText : Machine → List ℕ
 lineText s = machineFields s ++ characters "\n"
+
+-- the most characters that it has
+abbrev pub longestLine : ℕ
+longestLine = 41

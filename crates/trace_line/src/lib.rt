@@ -8,7 +8,7 @@ ghost use Prim.Native.Nat.{_+_, _≤_};
 ghost use mathlib.Core.Path.{_≡_};
 ghost use lib.ListN.{drop};
 ghost use Rattle.text_writing.specs.Written.{Wrote};
-ghost use Rattle.trace_line.specs.Lines.{lineText};
+ghost use Rattle.trace_line.specs.Lines.{lineText, longestLine};
 ghost use Rattle.trace_line.specs.Fields.{cyclesOf, fieldAt, fieldsOf, stateOf, spelledBy, lineOf, lineFrom};
 use manual::Machine;
 use registers::Registers;
@@ -20,6 +20,7 @@ use text_reading::read_byte;
 use text_reading::read_count;
 use text_reading::read_mark;
 use text_reading::read_word;
+use text_reading::rest;
 use text_writing::put_byte;
 use trace_fields::put_machine;
 
@@ -44,14 +45,6 @@ pub struct Spelled {
 pub enum Line {
     State(Spelled),
     Malformed,
-}
-
-// The text from a place on; nothing if that lies past the end.
-pub fn rest(text: &[u8], at: usize) -> &[u8]
-    ensures { λ r. ⌜ now r ≡ drop at (now (text .entry)) ⌝ }
-{
-    let end = text.len();
-    if at < end { &text[at..] } else { &text[end..] }
 }
 
 // If a text begins with 0, that is the whole number: so there is no leading zero.
@@ -148,10 +141,13 @@ pub fn read_state(text: &[u8], at: usize) -> Line
     }
 }
 
-// Writes the line of a state. It has at most 41 characters.
+// The most characters that the line of a state has.
+pub const LONGEST_LINE: usize = 41;
+
+// Writes the line of a state.
 pub fn put_line(out: &mut [u8], at: usize, machine: Machine) -> usize
     ensures { λ r. ⌜ Wrote (now (out .entry)) at (lineText machine) (now (out .exit)) r ⌝ }
-    ensures { λ r. ⌜ r ≤ at + 41 ⌝ }
+    ensures { λ r. ⌜ r ≤ at + longestLine ⌝ }
 {
     let next = put_machine(out, at, machine);
     put_byte(out, next, b'\n')

@@ -9,6 +9,7 @@ ghost use Rattle.text_writing.specs.Written.{Wrote};
 ghost use Rattle.trace_text.specs.Entries.{longest};
 ghost use Rattle.trace_steps.specs.Traces.{shown, trace};
 use cpu::single_step;
+use listing::LONGEST_INSTRUCTION;
 use listing::put_instruction;
 use manual::Ended;
 use manual::FULL_MEMORY;
@@ -31,15 +32,14 @@ pub struct Shown {
     pub size: usize,
 }
 
-// A step, and its entry where it was made. The instruction is written down first, for the step may store over it; 25 is the
-// most that it can have.
+// A step, and its entry if it was made. The instruction is written down first, for the step may store over it.
 fn put_step(out: &mut [u8], at: usize, view: View, machine: Machine, memory: &mut [u8]) -> ShownStep
     requires { ⌜ length (now memory) ≡ fullMemory ⌝ }
     ensures { λ r. ⌜ Gives (stepFull idle machine) (now (memory .entry)) (r .stepped) (now (memory .exit)) ⌝ }
     ensures { λ r. ⌜ Wrote (now (out .entry)) at (shown view (now (memory .entry)) machine (r .stepped)) (now (out .exit)) (r .next) ⌝ }
     ensures { λ r. ⌜ r .next ≤ at + longest view ⌝ }
 {
-    let mut instruction = [0u8; 25];
+    let mut instruction = [0u8; LONGEST_INSTRUCTION];
     let size = put_instruction(&mut instruction, 0, memory, machine.registers.counter);
     let stepped = single_step(machine, Lines::idle(), memory);
     let reason = stepped.reason;
@@ -64,8 +64,7 @@ fn put_step(out: &mut [u8], at: usize, view: View, machine: Machine, memory: &mu
     }
 }
 
-// At most `bound` steps from a machine, and what is shown of each. What does not fit is dropped; an entry has at most 41
-// characters in a trace, and 52 in a timetable.
+// At most `bound` steps from a machine, and what is shown of each. What does not fit is dropped.
 pub fn put_steps(out: &mut [u8], view: View, start: Machine, bound: u64, memory: &mut [u8]) -> Shown
     ensures { λ r. ⌜ Gives (longRun (length (now (memory .entry))) bound idle start) (now (memory .entry)) (r .ended) (now (memory .exit)) ⌝ }
     ensures { λ r. ⌜ Wrote (now (out .entry)) 0 (trace view bound start (now (memory .entry))) (now (out .exit)) (r .size) ⌝ }

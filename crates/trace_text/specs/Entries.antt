@@ -1,10 +1,11 @@
 -- The entry of a step that was made, by what is shown of a run: a trace has the states (P10), a timetable the steps, for the lesson on timing (P8).
-use Prim.Native.Nat.{ℕ}
+use Prim.Native.Nat.{ℕ, _+_}
 use mathlib.Core.List.{List, _++_}
 use Rattle.manual.specs.declared.Machine.{Machine}
 use Rattle.laws.specs.Characters.{characters}
 use Rattle.text_writing.specs.Numerals.{hex4, decimal, spaced}
-use Rattle.trace_line.specs.Lines.{lineText}
+use Rattle.trace_line.specs.Lines.{lineText, longestLine}
+use Rattle.listing.specs.Lines.{longestInstruction}
 use Rattle.trace_text.specs.declared.View.{View}
 use Rattle.trace_text.specs.declared.View.the-variants.{States, Steps}
 
@@ -19,5 +20,5 @@ entryText Steps instruction cycles first s = stepLine instruction cycles first
 
 -- the most characters that an entry can have
 abbrev pub longest : View → ℕ
-longest States = 41
-longest Steps = 52
+longest States = longestLine
+longest Steps = longestInstruction + 27

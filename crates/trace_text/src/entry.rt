@@ -2,6 +2,7 @@
 ghost use Prim.Native.Nat.{_+_, _≤_};
 ghost use lib.ListN.{length};
 ghost use Rattle.text_writing.specs.Written.{Wrote};
+ghost use Rattle.listing.specs.Lines.{longestInstruction};
 ghost use Rattle.trace_text.specs.Entries.{stepLine, entryText, longest};
 use crate::View;
 use manual::Machine;
@@ -22,7 +23,7 @@ fn put_timing(out: &mut [u8], at: usize, instruction: &[u8], cycles: u64, first:
     put_byte(out, after_first, b'\n')
 }
 
-// Writes the entry of a step that left `machine`. 25 is the most that an instruction can have.
+// Writes the entry of a step that left `machine`.
 pub fn put_entry(
     out: &mut [u8],
     at: usize,
@@ -32,7 +33,7 @@ pub fn put_entry(
     first: u16,
     machine: Machine,
 ) -> usize
-    requires { ⌜ length (now instruction) ≤ 25 ⌝ }
+    requires { ⌜ length (now instruction) ≤ longestInstruction ⌝ }
     ensures { λ r. ⌜ Wrote (now (out .entry)) at (entryText view (now (instruction .entry)) cycles first machine) (now (out .exit)) r ⌝ }
     ensures { λ r. ⌜ r ≤ at + longest view ⌝ }
 {

@@ -2,15 +2,22 @@
 ghost use Prim.Native.Nat.{_+_, _≤_};
 ghost use lib.ListN.{length};
 ghost use Rattle.text_writing.specs.Written.{Wrote};
-ghost use Rattle.trace_text.specs.Findings.{acceptedLines, badLine, finding, verdictLine};
+ghost use Rattle.trace_text.specs.Findings.{acceptedLines, badLine, finding, verdictLine, longestFinding};
+use laws::answers::*;
 use text_writing::put_byte;
 use text_writing::put_decimal;
 use text_writing::put_spaced_decimal;
 use text_writing::put_text;
+use trace_line::LONGEST_LINE;
+
+// The most characters that a finding has, and that the line of a verdict has with the entry that would have been right.
+pub const LONGEST_FINDING: usize = 90;
+
+pub const LONGEST_VERDICT: usize = 25 + LONGEST_LINE;
 
 fn put_accepted(out: &mut [u8], at: usize, lines: u64) -> usize
     ensures { λ r. ⌜ Wrote (now (out .entry)) at (acceptedLines lines) (now (out .exit)) r ⌝ }
-    ensures { λ r. ⌜ r ≤ at + 90 ⌝ }
+    ensures { λ r. ⌜ r ≤ at + longestFinding ⌝ }
 {
     let after_word = put_text(out, at, b"accepted: every line follows, lines: ");
     let after_number = put_decimal(out, after_word, lines);
@@ -26,16 +33,15 @@ fn put_bad(out: &mut [u8], at: usize, line: u64, why: &[u8]) -> usize
     put_text(out, after_number, why)
 }
 
-// Writes the sentence for an answer: of 0 with the number of entries, of 11 and 12 with that of the bad one. It has at most 90
-// characters.
+// Writes the sentence for an answer: of 0 with the number of entries, of 11 and 12 with that of the bad one.
 pub fn put_finding(out: &mut [u8], at: usize, answer: u8, number: u64) -> usize
     ensures { λ r. ⌜ Wrote (now (out .entry)) at (finding answer number) (now (out .exit)) r ⌝ }
-    ensures { λ r. ⌜ r ≤ at + 90 ⌝ }
+    ensures { λ r. ⌜ r ≤ at + longestFinding ⌝ }
 {
-    if answer == 0 {
+    if answer == NOT_REFUSED {
         return put_accepted(out, at, number);
     }
-    if answer == 12 {
+    if answer == STRAY_ENTRY {
         return put_bad(
             out,
             at,

@@ -3,6 +3,8 @@ mod entry; // entry.rt: the entry
 mod finding; // finding.rt: the sentence
 
 pub use entry::put_entry;
+pub use finding::LONGEST_FINDING;
+pub use finding::LONGEST_VERDICT;
 pub use finding::put_finding;
 pub use finding::put_verdict;
 

@@ -21,6 +21,7 @@ use manual::HIGHEST_COUNT;
 use manual::Lines;
 use manual::Machine;
 use manual::Reason;
+use manual::SERVING_CYCLES;
 use memory::Address;
 use memory::get_byte;
 use opcode_effects::Dispatched;
@@ -34,9 +35,6 @@ use std::num::wrapping_add_u64;
 use std::num::wrapping_sub_u64;
 
 pub mod seals; // seals.rt: what is sealed
-
-// The answer number of a run that was halted.
-pub const HALTED: u8 = 13;
 
 // The sealed address that the next step would read, the steps that were made before it, and the machine after them.
 pub struct Halt {
@@ -170,7 +168,7 @@ fn serve_line(
         return Watched::halted(place, steps, start);
     }
     let registers = serve(vector, start.registers, memory);
-    let left = Machine::new(registers, start.cycles + 7, lines.nmi);
+    let left = Machine::new(registers, start.cycles + SERVING_CYCLES, lines.nmi);
     Watched::ran(Reason::Made, steps + 1, left)
 }
 

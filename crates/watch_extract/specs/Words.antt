@@ -1,6 +1,7 @@
 -- The status, the line and the sentence of a watched run of an image.
 use Prim.Native.Nat.{ℕ, _+_}
 use mathlib.Core.List.{List, [], _++_}
+use Rattle.laws.specs.Answers.{halted}
 use Rattle.laws.specs.Characters.{characters}
 use Rattle.text_writing.specs.Numerals.{decimal, spaced, hex4}
 use Rattle.trace_fields.specs.Fields.{machineFields}
@@ -14,14 +15,18 @@ use Rattle.watch.specs.declared.Halt.{Halt}
 -- 13: it was halted before it would have read a sealed byte
 abbrev pub sealedStatus : Goal → Watched → ℕ
 sealedStatus goal (Watched.Ran q) = endStatus goal q
-sealedStatus goal (Watched.Halted h) = 13
+sealedStatus goal (Watched.Halted h) = halted
 
 abbrev pub haltLine : Halt → List ℕ
-haltLine h = decimal 13 ++ spaced (decimal (h .steps)) ++ spaced (machineFields (h .machine)) ++ characters "\n"
+haltLine h = decimal halted ++ spaced (decimal (h .steps)) ++ spaced (machineFields (h .machine)) ++ characters "\n"
 
 abbrev pub sealedLine : Watched → List ℕ
 sealedLine (Watched.Ran q) = line q
 sealedLine (Watched.Halted h) = haltLine h
+
+-- the most characters that it has
+abbrev pub longestSealedLine : ℕ
+longestSealedLine = 72
 
 abbrev pub unread : ℕ → ℕ → ℕ → List ℕ
 unread first last steps =
@@ -34,6 +39,10 @@ would steps place =
 abbrev pub oathText : ℕ → ℕ → Watched → List ℕ
 oathText first last (Watched.Ran q) = unread first last (q .steps)
 oathText first last (Watched.Halted h) = would (h .steps) (h .place)
+
+-- the most characters that it has
+abbrev pub longestOath : ℕ
+longestOath = 96
 
 -- how the run ended, in words, if it was not halted; x is the memory that it left
 abbrev pub endText : Goal → Watched → List ℕ → List ℕ

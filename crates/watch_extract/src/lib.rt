@@ -7,9 +7,10 @@ ghost use Rattle.watch.specs.Guarded.{inStretch};
 ghost use Rattle.text_writing.specs.Numerals.{decimal};
 ghost use Rattle.text_writing.specs.Written.{Wrote};
 ghost use Rattle.watch_extract.specs.Extract.{blanked, extract};
-ghost use Rattle.watch_extract.specs.Words.{sealedStatus, haltLine, sealedLine, unread, would, oathText};
+ghost use Rattle.watch_extract.specs.Words.{sealedStatus, haltLine, sealedLine, unread, would, oathText, longestSealedLine, longestOath};
 use console::wipe_progress;
 use image_run::start_image;
+use laws::answers::*;
 use manual::FULL_MEMORY;
 use manual::Reason;
 use parts::watch_on;
@@ -22,7 +23,6 @@ use text_writing::put_hex4;
 use text_writing::put_spaced_decimal;
 use text_writing::put_text;
 use trace_fields::put_machine;
-use watch::HALTED;
 use watch::Halt;
 use watch::Watched;
 
@@ -66,10 +66,15 @@ pub fn sealed_status(goal: Goal, watched: Watched) -> u8
     }
 }
 
+// The most characters that a line has, and that an oath has.
+pub const LONGEST_SEALED_LINE: usize = 72;
+
+pub const LONGEST_OATH: usize = 96;
+
 // The line of a run that was halted.
 fn put_halt(out: &mut [u8], at: usize, halt: Halt) -> usize
     ensures { λ r. ⌜ Wrote (now (out .entry)) at (haltLine halt) (now (out .exit)) r ⌝ }
-    ensures { λ r. ⌜ r ≤ at + 72 ⌝ }
+    ensures { λ r. ⌜ r ≤ at + longestSealedLine ⌝ }
 {
     let after_answer = put_decimal(out, at, HALTED as u64);
     let after_steps = put_spaced_decimal(out, after_answer, halt.steps);
@@ -81,7 +86,7 @@ fn put_halt(out: &mut [u8], at: usize, halt: Halt) -> usize
 // The line: that of report, with 13 if it was halted.
 pub fn put_sealed_line(out: &mut [u8], at: usize, watched: Watched) -> usize
     ensures { λ r. ⌜ Wrote (now (out .entry)) at (sealedLine watched) (now (out .exit)) r ⌝ }
-    ensures { λ r. ⌜ r ≤ at + 72 ⌝ }
+    ensures { λ r. ⌜ r ≤ at + longestSealedLine ⌝ }
 {
     match watched {
         Watched::Ran(ended) => put_line(out, at, ended),
@@ -92,7 +97,7 @@ pub fn put_sealed_line(out: &mut [u8], at: usize, watched: Watched) -> usize
 // No sealed byte was read.
 fn put_unread(out: &mut [u8], at: usize, first: u16, last: u16, steps: u64) -> usize
     ensures { λ r. ⌜ Wrote (now (out .entry)) at (unread first last steps) (now (out .exit)) r ⌝ }
-    ensures { λ r. ⌜ r ≤ at + 96 ⌝ }
+    ensures { λ r. ⌜ r ≤ at + longestOath ⌝ }
 {
     let after_no = put_text(out, at, b"no byte from ");
     let after_first = put_hex4(out, after_no, first);
@@ -117,7 +122,7 @@ fn put_next(out: &mut [u8], at: usize, count: u64) -> usize
 // One would be.
 fn put_would(out: &mut [u8], at: usize, steps: u64, place: u16) -> usize
     ensures { λ r. ⌜ Wrote (now (out .entry)) at (would steps place) (now (out .exit)) r ⌝ }
-    ensures { λ r. ⌜ r ≤ at + 96 ⌝ }
+    ensures { λ r. ⌜ r ≤ at + longestOath ⌝ }
 {
     let after_halted = put_text(out, at, b"halted before step ");
     let after_step = put_next(out, after_halted, steps);
@@ -129,7 +134,7 @@ fn put_would(out: &mut [u8], at: usize, steps: u64, place: u16) -> usize
 // What can be sworn of the sealed bytes, in words.
 pub fn put_oath(out: &mut [u8], at: usize, first: u16, last: u16, watched: Watched) -> usize
     ensures { λ r. ⌜ Wrote (now (out .entry)) at (oathText first last watched) (now (out .exit)) r ⌝ }
-    ensures { λ r. ⌜ r ≤ at + 96 ⌝ }
+    ensures { λ r. ⌜ r ≤ at + longestOath ⌝ }
 {
     match watched {
         Watched::Ran(ended) => put_unread(out, at, first, last, ended.steps),

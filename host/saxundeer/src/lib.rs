@@ -43,6 +43,7 @@
 #[cfg(test)]
 extern crate std;
 
+mod answers;
 #[cfg(feature = "watch")]
 pub mod devices;
 mod functions;

@@ -1,5 +1,6 @@
 //! The runs: by steps, by any number of them, and by cycles.
 
+use crate::answers;
 use crate::functions::{self, RunFunction};
 use crate::lines::Lines;
 use crate::machine::Machine;
@@ -89,11 +90,11 @@ fn run_by(
     let machine = Machine::of_numbers(number, cycles);
     let progress = Progress { steps, machine };
     match answer {
-        0 => RunAnswer::Made(progress),
-        1 => RunAnswer::MemoryNotFull(progress),
-        2 => RunAnswer::NoCycleRoom(progress),
-        3 => RunAnswer::NotAnOpcode(progress),
-        4 => RunAnswer::BoundTooHigh(progress),
+        answers::NOT_REFUSED => RunAnswer::Made(progress),
+        answers::MEMORY_NOT_FULL => RunAnswer::MemoryNotFull(progress),
+        answers::NO_CYCLE_ROOM => RunAnswer::NoCycleRoom(progress),
+        answers::NOT_AN_OPCODE => RunAnswer::NotAnOpcode(progress),
+        answers::BOUND_TOO_HIGH => RunAnswer::BoundTooHigh(progress),
         _ => unreachable!("a run answered {answer}"),
     }
 }

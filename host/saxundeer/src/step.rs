@@ -1,5 +1,6 @@
 //! One step.
 
+use crate::answers;
 use crate::functions;
 use crate::lines::Lines;
 use crate::machine::Machine;
@@ -44,10 +45,10 @@ pub fn single_step(machine: Machine, lines: Lines, memory: &mut [u8]) -> StepAns
     };
     let machine = Machine::of_numbers(number, cycles);
     match answer {
-        0 => StepAnswer::Made { machine, first },
-        1 => StepAnswer::MemoryNotFull(machine),
-        2 => StepAnswer::NoCycleRoom(machine),
-        3 => StepAnswer::NotAnOpcode(machine),
+        answers::NOT_REFUSED => StepAnswer::Made { machine, first },
+        answers::MEMORY_NOT_FULL => StepAnswer::MemoryNotFull(machine),
+        answers::NO_CYCLE_ROOM => StepAnswer::NoCycleRoom(machine),
+        answers::NOT_AN_OPCODE => StepAnswer::NotAnOpcode(machine),
         _ => unreachable!("a step answered {answer}"),
     }
 }

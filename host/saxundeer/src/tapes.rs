@@ -14,6 +14,8 @@
 //! assert_eq!(hex[..size], *b":01020000A954\r\n:00000001FF\r\n");
 //! ```
 
+use crate::answers;
+
 /// The two readers take the same, and so do the two moves.
 type ReadFunction =
     unsafe extern "C" fn(*const u8, usize, *mut u8, usize, *mut u64, *mut usize) -> u8;
@@ -104,11 +106,11 @@ impl Bad {
     fn of(answer: u8, good: u64, offset: usize) -> Bad {
         let place = Place { good, offset };
         match answer {
-            1 => Bad::MemoryNotFull,
-            5 => Bad::Malformed(place),
-            6 => Bad::WrongSum(place),
-            7 => Bad::PastTheEnd(place),
-            8 => Bad::NoEnd(place),
+            answers::MEMORY_NOT_FULL => Bad::MemoryNotFull,
+            answers::MALFORMED_RECORD => Bad::Malformed(place),
+            answers::WRONG_SUM => Bad::WrongSum(place),
+            answers::PAST_THE_END => Bad::PastTheEnd(place),
+            answers::NO_END => Bad::NoEnd(place),
             _ => unreachable!("a text was answered {answer}"),
         }
     }
@@ -128,7 +130,7 @@ fn read(function: ReadFunction, text: &[u8], memory: &mut [u8]) -> Result<u64, B
         )
     };
     match answer {
-        0 => Ok(good),
+        answers::NOT_REFUSED => Ok(good),
         _ => Err(Bad::of(answer, good, offset)),
     }
 }
@@ -167,8 +169,8 @@ fn moved(function: MoveFunction, text: &[u8], out: &mut [u8]) -> Result<usize, U
         )
     };
     match answer {
-        0 => Ok(size),
-        10 => Err(Unmoved::NoRoom),
+        answers::NOT_REFUSED => Ok(size),
+        answers::NO_ROOM => Err(Unmoved::NoRoom),
         _ => Err(Unmoved::Bad(Bad::of(answer, good, offset))),
     }
 }
@@ -212,10 +214,10 @@ pub fn punch(memory: &[u8], first: u16, last: u16, text: &mut [u8]) -> Result<us
         )
     };
     match answer {
-        0 => Ok(size),
-        1 => Err(Unpunched::MemoryNotFull),
-        9 => Err(Unpunched::FirstAboveLast),
-        10 => Err(Unpunched::NoRoom),
+        answers::NOT_REFUSED => Ok(size),
+        answers::MEMORY_NOT_FULL => Err(Unpunched::MemoryNotFull),
+        answers::FIRST_ABOVE_LAST => Err(Unpunched::FirstAboveLast),
+        answers::NO_ROOM => Err(Unpunched::NoRoom),
         _ => unreachable!("a punching was answered {answer}"),
     }
 }
@@ -258,14 +260,14 @@ pub fn rescue(text: &[u8], out: &mut [u8]) -> Result<Saved, Unsaved> {
         )
     };
     match answer {
-        0 => Ok(Saved {
+        answers::NOT_REFUSED => Ok(Saved {
             size,
             kept,
             dropped,
             first_dropped,
         }),
-        8 => Err(Unsaved::TooMany),
-        10 => Err(Unsaved::NoRoom),
+        answers::NO_END => Err(Unsaved::TooMany),
+        answers::NO_ROOM => Err(Unsaved::NoRoom),
         _ => unreachable!("a rescue was answered {answer}"),
     }
 }

@@ -10,6 +10,8 @@
 //! assert_eq!(traces::check(&image, log, &mut copy), Ok(()));
 //! ```
 
+use crate::answers;
+
 unsafe extern "C" {
     fn mos6502_trace_check(
         image: *const u8,
@@ -49,10 +51,10 @@ pub fn check(image: &[u8], lines: &[u8], copy: &mut [u8]) -> Result<(), Bad> {
         )
     };
     match answer {
-        0 => Ok(()),
-        1 => Err(Bad::MemoryNotFull),
-        11 => Err(Bad::Malformed(line)),
-        12 => Err(Bad::Astray(line)),
+        answers::NOT_REFUSED => Ok(()),
+        answers::MEMORY_NOT_FULL => Err(Bad::MemoryNotFull),
+        answers::MALFORMED_ENTRY => Err(Bad::Malformed(line)),
+        answers::STRAY_ENTRY => Err(Bad::Astray(line)),
         _ => unreachable!("a trace was answered {answer}"),
     }
 }

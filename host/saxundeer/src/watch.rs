@@ -17,6 +17,7 @@
 
 use core::ops::RangeInclusive;
 
+use crate::answers;
 use crate::lines::Lines;
 use crate::machine::Machine;
 use crate::runs::{Progress, RunAnswer};
@@ -110,12 +111,12 @@ impl Numbers {
             machine: Machine::of_numbers(self.registers, self.cycles),
         };
         Watched::Ran(match answer {
-            0 => RunAnswer::Made(progress),
-            1 => RunAnswer::MemoryNotFull(progress),
-            2 => RunAnswer::NoCycleRoom(progress),
-            3 => RunAnswer::NotAnOpcode(progress),
-            4 => RunAnswer::BoundTooHigh(progress),
-            13 => {
+            answers::NOT_REFUSED => RunAnswer::Made(progress),
+            answers::MEMORY_NOT_FULL => RunAnswer::MemoryNotFull(progress),
+            answers::NO_CYCLE_ROOM => RunAnswer::NoCycleRoom(progress),
+            answers::NOT_AN_OPCODE => RunAnswer::NotAnOpcode(progress),
+            answers::BOUND_TOO_HIGH => RunAnswer::BoundTooHigh(progress),
+            answers::HALTED => {
                 return Watched::Halted {
                     place: self.place,
                     progress,

@@ -1,16 +1,15 @@
--- The folder is a part of the name.
-use mathlib.Core.Path.{sym}
-use native.Mathlib.Omega.{arith}
-use lib.Seq.{length-take-le}
+-- What could not be written is a failure.
+use borrow.Author.Tests.{eq-eqb}
+use Rattle.console.specs.Theorems.Failing.{stays-on}
 use borrow.Author.Needs.{needs}
 use Rattle.console_files.proofs.replace.Statement.{statement}
 use Rattle.console_files.proofs.replace.Tie as tie
 
-slice-aggregate-put-beside-2 : tie.Need-slice-aggregate-put-beside-2
-slice-aggregate-put-beside-2 c = sym (length-take-le _ _ (omega (arith, c .before .before .before .folder-end .ensures .0, c .before .before .before .before .before .before .put-target .ensures)))
+returns : tie.Need-returns
+returns c = (c .not-written .ensures .0, stays-on (c .before .before .before .before .put-file .ensures) (c .not-written .ensures .1))
 
-slice-aggregate-sync-folder : tie.Need-slice-aggregate-sync-folder
-slice-aggregate-sync-folder c = sym (length-take-le _ _ (omega (arith, c .before .before .before .before .before .before .before .before .before .before .before .before .before .folder-end .ensures .0, c .before .before .before .before .before .before .before .before .before .before .before .before .before .before .before .before .put-target .ensures)))
+returns-2 : tie.Need-returns-2
+returns-2 c = (rw (eq-eqb _ _ (c .if1 .left)), c .before .before .put-file .ensures)
 
 pub replace-spec : {M : Type 1} → statement M
-replace-spec = tie.close (tie.spec (search needs) (search needs) (search needs) (search needs) (search needs) (search needs) (search needs) (search needs) (search needs) (search needs) (search needs) (search needs) slice-aggregate-put-beside-2 (search needs) (search needs) (search needs) (search needs) (search needs) (search needs) (search needs) (search needs) (search needs) (search needs) slice-aggregate-sync-folder (search needs) (search needs) (search needs) (search needs))
+replace-spec = tie.close (tie.spec (search needs) (search needs) returns returns-2)

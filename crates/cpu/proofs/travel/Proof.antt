@@ -15,9 +15,9 @@ use Rattle.manual.specs.Micro.{exec, Gives}
 use Rattle.manual.specs.Outcomes.{isMade, ended}
 use Rattle.manual.specs.Stepping.{fullMemory, runFull}
 use Rattle.manual.specs.Lemmas.StepLaws.{run-end}
-use Rattle.manual.specs.Theorems.Lunch.{added}
+use Rattle.manual.specs.Theorems.Lunch.{added, added-none, added-twice}
 use Rattle.cpu.specs.Inner.Turning.{Calm, reach, Fits, fitting, going, turning, settled}
-use Rattle.cpu.specs.Lemmas.Turning.{reach-calm, going-fits, going-most, turn-few, turn-stops, turn-goes, added-none, added-twice}
+use Rattle.cpu.specs.Lemmas.Turning.{reach-calm, going-fits, going-most, turn-few, turn-stops, turn-goes}
 use Rattle.cpu.proofs.travel.Statement.{statement}
 use Rattle.cpu.proofs.travel.Tie as tie
 

@@ -13,7 +13,7 @@ use Rattle.manual.specs.declared.Ended.{Ended}
 use Rattle.manual.specs.declared.Reason.the-variants.{Made}
 use Rattle.manual.specs.Micro.{Micro, done, _>>=_}
 use Rattle.manual.specs.Outcomes.{machineOf, ended}
-use Rattle.manual.specs.Interrupts.{served, due}
+use Rattle.manual.specs.Interrupts.{servingCycles, served, due}
 use Rattle.manual.specs.Stepping.{highestCount}
 use Rattle.cpu.specs.declared.Travelled.{Travelled}
 use Rattle.cpu.specs.Inner.Travelling.{travelled, travelling}
@@ -60,7 +60,7 @@ fitting bound cycles = least bound (least ((highestCount - cycles) / 7 + 1) 1677
 unfoldable pub serving : ℕ → Registers → ℕ → Bool → Micro Travelled
 serving vector r count nmi = do
   r₁ ← served vector r
-  done (travelled 0 (ended Made 1 (machineOf r₁ (count + 7) nmi)))
+  done (travelled 0 (ended Made 1 (machineOf r₁ (count + servingCycles) nmi)))
 
 -- the answer of a turn, with the machine that counts
 abbrev pub settled : Machine → Ended → Ended

@@ -276,10 +276,3 @@ module _ (lines : Lines) (s : Machine) (n j : ℕ) (l : 0 < j) (u : j ≤ n) whe
         let made = steps-of (run-ends far lines s m gone) h in
         let e : far + (n - q .steps) ≡ n = omega (arith, made .1, some (due lines s) .1) in
         (omega (arith, made .1, some (due lines s) .0), rw e at (full-lunch far (n - q .steps) lines s m gone (made .0)))
-
--- no step before, and so many before and so many more
-pub added-none : (w : Ended × List ℕ) → w ≡ added 0 w
-added-none w = let e : w .0 .steps ≡ 0 + w .0 .steps = omega arith in ap (λ (c : ℕ). (ended (w .0 .reason) c (w .0 .machine), w .1)) e
-
-pub added-twice : (j k : ℕ) (w : Ended × List ℕ) → added j (added k w) ≡ added (j + k) w
-added-twice j k w = let e : j + (k + w .0 .steps) ≡ j + k + w .0 .steps = omega arith in ap (λ (c : ℕ). (ended (w .0 .reason) c (w .0 .machine), w .1)) e

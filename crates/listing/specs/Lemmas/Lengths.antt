@@ -1,5 +1,5 @@
 -- How long a listing can be.
-use Prim.Native.Nat.{ℕ, zero, suc, _-_, _*_, _≤_}
+use Prim.Native.Nat.{ℕ, zero, suc, _+_, _-_, _*_, _≤_}
 use mathlib.Core.Path.{_≡_, refl}
 use mathlib.Core.Bool.{Bool, true, false, cond}
 use mathlib.Core.List.{List, [], _∷_}
@@ -21,7 +21,7 @@ use Rattle.instruction.specs.Opcodes.{decoded}
 use Rattle.laws.specs.Characters.{characters}
 use Rattle.opcode_table.specs.Names.{mnemonic, nameOf}
 use Rattle.listing_operands.specs.Operands.{written, operand}
-use Rattle.listing.specs.Lines.{Line, bytesFrom, size, operandOf, lineOf, unknown, lines, byteFields, fields, text, texts, instructionAt}
+use Rattle.listing.specs.Lines.{Line, bytesFrom, size, operandOf, lineOf, unknown, lines, byteFields, fields, text, texts, instructionAt, longestInstruction}
 use Rattle.listing.specs.Lemmas.Lines.{size-most}
 
 -- Every name has three letters.
@@ -79,19 +79,19 @@ module _ (m : List ℕ) where
   bytes-length at zero = refl
   bytes-length at (suc n) = let rest = bytes-length (suc at) n in omega arith
 
-  fields-length : (at : ℕ) (d : Decoded) → length (fields (lineOf m at d)) ≤ 25
+  fields-length : (at : ℕ) (d : Decoded) → length (fields (lineOf m at d)) ≤ longestInstruction
   fields-length at d =
       simp length-append
       (omega (arith, field-length (bytesFrom m at (size d)), bytes-length at (size d), size-most d, name-length d, operand-of-length m at d))
 
-  -- at most 25 characters an instruction, and 26 a line
-  pub instruction-length : (at : ℕ) → length (instructionAt m at) ≤ 25
+  -- an instruction, and a line, which has an end
+  pub instruction-length : (at : ℕ) → length (instructionAt m at) ≤ longestInstruction
   instruction-length at = fields-length at (decoded (getD m at 0))
 
-  line-length : (at : ℕ) (d : Decoded) → length (text (lineOf m at d)) ≤ 26
+  line-length : (at : ℕ) (d : Decoded) → length (text (lineOf m at d)) ≤ longestInstruction + 1
   line-length at d = omega (arith, length-append (fields (lineOf m at d)) (characters "\n"), fields-length at d)
 
-  unknown-length : (at n : ℕ) → length (texts (unknown m at n)) ≤ 26 * n
+  unknown-length : (at n : ℕ) → length (texts (unknown m at n)) ≤ (longestInstruction + 1) * n
   unknown-length at zero = omega arith
   unknown-length at (suc n) =
       omega (
@@ -105,13 +105,13 @@ module _ (m : List ℕ) where
   either-length true n s t p q = p
   either-length false n s t p q = q
 
-  pub lines-length : (at n covered : ℕ) → length (texts (lines m at n covered)) ≤ 26 * n
+  pub lines-length : (at n covered : ℕ) → length (texts (lines m at n covered)) ≤ (longestInstruction + 1) * n
   unfolding lines
   lines-length at zero covered = omega arith
   lines-length at (suc n) (suc covered) = let rest = lines-length (suc at) n covered in omega arith
   lines-length at (suc n) zero =
       let d = decoded (getD m at 0) in
       let rest = lines m (suc at) n (size d - 1) in
-      either-length (leb (size d) (suc n)) (26 * suc n) (lineOf m at d ∷ rest) (unknown m at (suc n))
+      either-length (leb (size d) (suc n)) ((longestInstruction + 1) * suc n) (lineOf m at d ∷ rest) (unknown m at (suc n))
       (omega (arith, length-append (text (lineOf m at d)) (texts rest), line-length at d, lines-length (suc at) n (size d - 1)))
       (unknown-length at (suc n))

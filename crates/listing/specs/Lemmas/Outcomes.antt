@@ -5,6 +5,7 @@ use mathlib.Core.List.{List}
 use native.Mathlib.Omega.{arith}
 use lib.ListN.{length}
 use borrow.Author.Tests.{eq-eqb, ne-eqb, lt-ltb, le-ltb}
+use Rattle.laws.specs.Answers.{memoryNotFull, firstAboveLast}
 use Rattle.manual.specs.Stepping.{fullMemory}
 use Rattle.text_writing.specs.Written.{Wrote}
 use Rattle.text_writing.specs.Delivered.{Delivered, refused, delivered}
@@ -27,12 +28,12 @@ module _ (m : List ℕ) (first last : ℕ) where
   listing-length h = omega (arith, lines-length m first (suc (last - first)) 0)
 
 module _ (m : List ℕ) (first last : ℕ) (buffer : List ℕ) where
-  pub not-full : (length m ≡ fullMemory → ⊥) → refused 1 buffer ≡ listingInto m first last buffer
+  pub not-full : (length m ≡ fullMemory → ⊥) → refused memoryNotFull buffer ≡ listingInto m first last buffer
   unfolding listingInto
   not-full h = rw (ne-eqb (length m) fullMemory h)
 
   module _ (f : length m ≡ fullMemory) where
-    pub backwards : last < first → refused 9 buffer ≡ listingInto m first last buffer
+    pub backwards : last < first → refused firstAboveLast buffer ≡ listingInto m first last buffer
     unfolding listingInto
     backwards h = rw (eq-eqb (length m) fullMemory f, lt-ltb last first h)
 

@@ -21,7 +21,7 @@ use Rattle.manual.specs.declared.Reason.{Reason}
 use Rattle.manual.specs.declared.Reason.the-variants.{Made, MemoryNotFull, NoCycleRoom, NotAnOpcode, BoundTooHigh}
 use Rattle.manual.specs.Micro.{done, exec, Gives}
 use Rattle.manual.specs.Outcomes.{isMade, refused, ended}
-use Rattle.manual.specs.Interrupts.{nmiVector, irqVector, served, falls, calls, due}
+use Rattle.manual.specs.Interrupts.{nmiVector, irqVector, servingCycles, served, falls, calls, due}
 use Rattle.manual.specs.Instructions.{perform}
 use Rattle.manual.specs.Stepping.{fullMemory, highestCount, highestBound, made, act, attend, stepFull, step, runWhile, runFull, run, longRun}
 use Rattle.manual.specs.Lemmas.Programs.{exec-then, then}
@@ -72,14 +72,14 @@ unfolding stepFull
 step-attends lines s d h e = rw (le-ltb _ _ h, e)
 
 attend-serves : (vector : ℕ) (lines : Lines) (s : Machine) (m : List ℕ) {r : Registers} {m′ : List ℕ}
-    → Gives (served vector (s .registers)) m r m′ → Gives (attend (Through vector) lines s) m (made lines s 0 r 7) m′
+    → Gives (served vector (s .registers)) m r m′ → Gives (attend (Through vector) lines s) m (made lines s 0 r servingCycles) m′
 unfolding attend
 attend-serves vector lines s m g = then (served vector (s .registers)) _ m g refl
 
 pub step-serves : (lines : Lines) (s : Machine) (m : List ℕ) (vector : ℕ) {r : Registers} {m′ : List ℕ} → s .cycles ≤ highestCount
     → due lines s ≡ Through vector
     → Gives (served vector (s .registers)) m r m′
-    → Gives (stepFull lines s) m (made lines s 0 r 7) m′
+    → Gives (stepFull lines s) m (made lines s 0 r servingCycles) m′
 step-serves lines s m vector h e g = rw (step-attends lines s (Through vector) h e) (attend-serves vector lines s m g)
 
 act-undefined : (d : Decoded) (lines : Lines) (s : Machine) (m : List ℕ) → d ≡ Undefined → Gives (act d lines s) m (refused NotAnOpcode s) m

@@ -23,6 +23,13 @@ use Rattle.manual.specs.Theorems.RunAnswers.{Ends, all-made, no-cycle-ro
 abbrev pub added : ℕ → Ended × List ℕ → Ended × List ℕ
 added j w = (ended (w .0 .reason) (j + w .0 .steps) (w .0 .machine), w .1)
 
+-- no step before, and so many before and so many more
+pub added-none : (w : Ended × List ℕ) → w ≡ added 0 w
+added-none w = let e : w .0 .steps ≡ 0 + w .0 .steps = omega arith in ap (λ (c : ℕ). (ended (w .0 .reason) c (w .0 .machine), w .1)) e
+
+pub added-twice : (j k : ℕ) (w : Ended × List ℕ) → added j (added k w) ≡ added (j + k) w
+added-twice j k w = let e : j + (k + w .0 .steps) ≡ j + k + w .0 .steps = omega arith in ap (λ (c : ℕ). (ended (w .0 .reason) c (w .0 .machine), w .1)) e
+
 -- the count goes on from where it begins
 counted-on : (n j k : ℕ) (lines : Lines) (s : Machine) (m : List ℕ) → exec (runFull n (j + k) lines s) m ≡ added j (exec (runFull n k lines s) m)
 unfolding runFull runWhile

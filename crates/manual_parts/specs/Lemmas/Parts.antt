@@ -3,24 +3,19 @@ use Prim.Native.Nat.{ℕ, _+_, _-_, _≤_}
 use mathlib.Core.Path.{_≡_, refl, ap, sym, _∙_}
 use mathlib.Core.Bool.{Bool, true, false}
 use mathlib.Core.List.{List}
-use native.Mathlib.Nat.{add-assoc, zero-add}
 use native.Mathlib.Omega.{arith}
 use lib.Dec.{eqb}
 use borrow.Author.Tests.{eqb-true, eqb-false}
 use Rattle.manual.specs.declared.Machine.{Machine}
 use Rattle.manual.specs.declared.Ended.{Ended}
-use Rattle.manual.specs.declared.Reason.{Reason}
 use Rattle.manual.specs.declared.Reason.the-variants.{Made, MemoryNotFull}
 use Rattle.manual.specs.Micro.{exec, Gives}
-use Rattle.manual.specs.Outcomes.{isMade, ended}
+use Rattle.manual.specs.Outcomes.{ended}
 use Rattle.manual.specs.Interrupts.{idle}
 use Rattle.manual.specs.Stepping.{fullMemory, longRun}
 use Rattle.manual.specs.Lemmas.StepLaws.{long-short, long-whole}
 use Rattle.manual.specs.Theorems.RunAnswers.{Ends, all-made, no-cycle-room, not-an-opcode, run-ends}
-use Rattle.manual.specs.Theorems.Lunch.{added, full-lunch, full-stopped}
-
-pub was-stopped : (r : Reason) → isMade r ≡ false → r ≡ Made → ⊥
-was-stopped r e p = let z : true ≡ false = rw p at e in let y : _≡_ {A = ℕ} 0 1 = cc in omega arith
+use Rattle.manual.specs.Theorems.Lunch.{added, added-none, added-twice, full-lunch, full-stopped}
 
 made-all : {k : ℕ} {s : Machine} {m : List ℕ} {q : Ended} {m′ : List ℕ} → Ends k idle s m q m′ → q .reason ≡ Made → q .steps ≡ k
 made-all (all-made led) p = refl
@@ -80,12 +75,9 @@ module _ (size k : ℕ) (s : Machine) (m : List ℕ) {q : Ended} {m′ : List �
 abbrev pub Whole : Ended × List ℕ → ℕ → ℕ → ℕ → Machine → List ℕ → Type 0
 Whole w j size n s m = w ≡ added j (exec (longRun size n idle s) m)
 
-added-added : (j k : ℕ) (w : Ended × List ℕ) → added j (added k w) ≡ added (j + k) w
-added-added j k w = rw (add-assoc j k (w .0 .steps))
-
 -- before the first part
 pub begun : (size n : ℕ) (s : Machine) (m : List ℕ) → Whole (exec (longRun size n idle s) m) 0 size (n - 0) s m
-begun size n s m = let all : n - 0 ≡ n = omega arith in rw (all, zero-add (exec (longRun size n idle s) m .0 .steps))
+begun size n s m = let all : n - 0 ≡ n = omega arith in rw all (added-none (exec (longRun size n idle s) m))
 
 module _ {w : Ended × List ℕ} (j size steps k : ℕ) (s : Machine) (m : List ℕ) {q : Ended} {m′ : List ℕ}
     (h : Whole w j size (steps - j) s m) (fits : k ≤ steps - j) (g : Gives (longRun size k idle s) m q m′) where
@@ -102,7 +94,7 @@ module _ {w : Ended × List ℕ} (j size steps k : ℕ) (s : Machine) (m : List 
       (h
       ∙ ap (λ (i : ℕ). added j (exec (longRun size i idle s) m)) split
       ∙ ap (added j) (long-lunch size k s m g rest made)
-      ∙ added-added j k (exec (longRun size rest idle (q .machine)) m′))
+      ∙ added-twice j k (exec (longRun size rest idle (q .machine)) m′))
 
   -- it was stopped
   pub halt : (q .reason ≡ Made → ⊥) → w ≡ added j (q, m′)

@@ -14,10 +14,10 @@ use Rattle.manual.specs.Micro.{exec, Gives}
 use Rattle.manual.specs.Outcomes.{number, ended}
 use Rattle.manual.specs.Stepping.{runFull}
 use Rattle.manual.specs.Lemmas.StepLaws.{run-end}
-use Rattle.manual.specs.Theorems.Lunch.{added}
+use Rattle.manual.specs.Theorems.Lunch.{added, added-none, added-twice}
 use Rattle.cpu.specs.declared.Travelled.{Travelled}
 use Rattle.cpu.specs.Inner.Turning.{Fits, going, turning, settled}
-use Rattle.cpu.specs.Lemmas.Turning.{going-fits, going-most, turn-few, turn-stops, turn-goes, added-none, added-twice}
+use Rattle.cpu.specs.Lemmas.Turning.{going-fits, going-most, turn-few, turn-stops, turn-goes}
 use Rattle.mos6502_numbers.specs.Machines.{machineFrom, linesFrom, registersAfter, cyclesAfter}
 use Rattle.mos6502.specs.Numbers.{RunNumbers, runNumbers}
 use Rattle.mos6502.specs.Inner.Turns.{turnOnNumbers, Ran}

@@ -5,6 +5,7 @@ use mathlib.Core.Bool.{Bool}
 use mathlib.Core.List.{List}
 use native.Mathlib.Omega.{arith}
 use lib.ListN.{length}
+use Rattle.laws.specs.Answers.{halted}
 use Rattle.manual.specs.declared.Reason.{Reason}
 use Rattle.manual.specs.declared.Reason.the-variants.{Made, MemoryNotFull, NoCycleRoom, NotAnOpcode, BoundTooHigh}
 use Rattle.manual.specs.Outcomes.{number}
@@ -17,7 +18,7 @@ use Rattle.watch.specs.Theorems.Sealed.{code-watched-apart, code-long-apart}
 use Rattle.mos6502_watch.specs.Watching.{WatchNumbers, watchNumbers, onNumbers, watchedOnNumbers, longWatchedOnNumbers}
 
 -- No run answers 13: whoever looks at the answer alone knows whether it was halted.
-pub no-run-halts : (r : Reason) → number r ≡ 13 → ⊥
+pub no-run-halts : (r : Reason) → number r ≡ halted → ⊥
 no-run-halts Made e = absurd (omega arith)
 no-run-halts MemoryNotFull e = absurd (omega arith)
 no-run-halts NoCycleRoom e = absurd (omega arith)

@@ -1,7 +1,7 @@
 -- An opcode's row of the table, and an opcode that has none.
 use Prim.Native.Nat.{ℕ, _+_, _<_}
 use mathlib.Core.Path.{_≡_, refl, ap, sym, _∙_}
-use mathlib.Core.Bool.{true, false, cond}
+use mathlib.Core.Bool.{cond}
 use mathlib.Core.List.{List}
 use native.Mathlib.Omega.{arith}
 use lib.ListN.{getD}
@@ -68,7 +68,3 @@ pub no-row : (ks : List ℕ) → ((k : ℕ) → k < 256 → left ks k ≡ 0)
     → Gives (dispatched (decoded opcode) r) m Dispatched.NotAnOpcode m
 unfolding dispatched
 no-row ks test opcode r m l none = rw (undefined-of (decoded opcode) (rw (not-among opcode ks none) at (test opcode l)))
-
--- nothing both stores and stores nothing
-pub never-both : {A : Type 0} → true ≡ false → A
-never-both e = let z : _≡_ {A = ℕ} 0 1 = cc in absurd (omega arith)

@@ -5,6 +5,7 @@ use mathlib.Core.Bool.{Bool, true, false, cond}
 use mathlib.Core.List.{List, _++_}
 use lib.Dec.{eqb, ltb}
 use lib.ListN.{length}
+use Rattle.laws.specs.Answers.{notRefused}
 use Rattle.text_reading.specs.Numbers.{nowhere}
 use Rattle.trace_checking.specs.declared.Last.{Last}
 use Rattle.trace_checking.specs.declared.Last.the-variants.{Start}
@@ -21,12 +22,16 @@ pub record Ahead (image t : List ℕ) (lines : ℕ) (last : Last) (m k : List �
 abbrev pub Settled : List ℕ → List ℕ → Part × List ℕ → Type 0
 Settled image t w = (u : List ℕ) → length (t ++ u) ≤ nowhere → checkedPart Start image (t ++ u) ≡ w
 
+-- the most characters after the last LF that are held back for the next part: no entry has as many
+abbrev pub mostHeld : ℕ
+mostHeld = 64
+
 -- the place where a part ends, and whether another one is read
 abbrev pub partEnd : Bool → ℕ → ℕ → ℕ
-partEnd ended size whole = cond ended size (cond (ltb 64 (size - whole)) size whole)
+partEnd ended size whole = cond ended size (cond (ltb mostHeld (size - whole)) size whole)
 
 abbrev pub another : Bool → ℕ → ℕ → ℕ → Bool
-another ended size whole answer = cond ended false (cond (ltb 64 (size - whole)) false (eqb answer 0))
+another ended size whole answer = cond ended false (cond (ltb mostHeld (size - whole)) false (eqb answer notRefused))
 
 -- what is known then: of all that may follow, or if nothing follows of what was read
 abbrev pub After : Bool → Bool → List ℕ → List ℕ → Part → List ℕ → List ℕ → Type 0

@@ -9,6 +9,7 @@ use lib.Dec.{eqb, ltb}
 use lib.ListN.{length, take, drop, length-append, take-append-drop}
 use lib.Seq.{take-length}
 use borrow.Author.Tests.{eq-eqb, ne-eqb, eqb-true, eqb-false, ltb-true}
+use Rattle.laws.specs.Answers.{notRefused}
 use Rattle.text_reading.specs.Numbers.{nowhere}
 use Rattle.trace_checking.specs.declared.Last.{Last}
 use Rattle.trace_checking.specs.declared.Last.the-variants.{Start}
@@ -19,7 +20,8 @@ use Rattle.trace_checking.specs.Theorems.Parts.{goesOn, joined}
 use Rattle.trace_checking.specs.Inner.Cutting.{wholeEnd}
 use Rattle.trace_checking.specs.Theorems.Cutting.{cut-whole}
 use Rattle.trace_checking.specs.Theorems.Overlong.{overlong}
-use Rattle.program_check.specs.Inner.Ahead.{Ahead, Settled, partEnd, another, After}
+use Rattle.trace_line.specs.Lines.{longestLine}
+use Rattle.program_check.specs.Inner.Ahead.{Ahead, Settled, mostHeld, partEnd, another, After}
 
 -- before the first part
 pub begun : (image : List ℕ) → Ahead image [] 0 Start image []
@@ -64,23 +66,23 @@ module _ (image t : List ℕ) (lines : ℕ) (last : Last) (m k : List ℕ) (a : 
 
   module _ {p : Part} {m′ : List ℕ} where
     -- they were accepted: the rest is kept
-    pub went-on : (p, m′) ≡ checkedPart last m whole → p .answer ≡ 0 → p .lines ≤ length whole → Ahead image (t ++ n) (lines + p .lines) (p .last) m′ rest
+    pub went-on : (p, m′) ≡ checkedPart last m whole → p .answer ≡ notRefused → p .lines ≤ length whole → Ahead image (t ++ n) (lines + p .lines) (p .last) m′ rest
     went-on e z few = record {
       few = omega (arith, few, a .few, ap length parted, length-append whole rest, length-append t n, length-append k n);
       goes = λ u f.
           all u f
-          ∙ ap (added lines) (cut u f ∙ ap (λ (w : Part × List ℕ). goesOn w (rest ++ u)) (sym e) ∙ rw (eq-eqb (p .answer) 0 z))
+          ∙ ap (added lines) (cut u f ∙ ap (λ (w : Part × List ℕ). goesOn w (rest ++ u)) (sym e) ∙ rw (eq-eqb (p .answer) notRefused z))
           ∙ added-added lines (p .lines) (checkedPart (p .last) m′ (rest ++ u));
     }
 
     -- one of them was not
-    pub stopped : (p, m′) ≡ checkedPart last m whole → (p .answer ≡ 0 → ⊥) → Settled image (t ++ n) (added lines (p, m′))
+    pub stopped : (p, m′) ≡ checkedPart last m whole → (p .answer ≡ notRefused → ⊥) → Settled image (t ++ n) (added lines (p, m′))
     stopped e z u f =
         all u f
-        ∙ ap (added lines) (cut u f ∙ ap (λ (w : Part × List ℕ). goesOn w (rest ++ u)) (sym e) ∙ rw (ne-eqb (p .answer) 0 z))
+        ∙ ap (added lines) (cut u f ∙ ap (λ (w : Part × List ℕ). goesOn w (rest ++ u)) (sym e) ∙ rw (ne-eqb (p .answer) notRefused z))
 
     -- the last entry is too long
-    pub overran : wholeEnd s + 41 ≤ length s → (p, m′) ≡ checkedPart last m s → Settled image (t ++ n) (added lines (p, m′))
+    pub overran : wholeEnd s + longestLine ≤ length s → (p, m′) ≡ checkedPart last m s → Settled image (t ++ n) (added lines (p, m′))
     overran long e u f = all u f ∙ ap (added lines) (overlong s long last m u (fits u f) ∙ sym e)
 
     -- nothing follows
@@ -92,18 +94,18 @@ module _ (image t : List ℕ) (lines : ℕ) (last : Last) (m k : List ℕ) (a : 
         ∙ ap (added lines) (sym e)
 
     -- by the two tests and the answer
-    by-tests : (ended long bad : Bool) → ltb 64 (length s - wholeEnd s) ≡ long → eqb (p .answer) 0 ≡ bad
+    by-tests : (ended long bad : Bool) → ltb mostHeld (length s - wholeEnd s) ≡ long → eqb (p .answer) notRefused ≡ bad
         → length (t ++ n) ≤ nowhere
         → (p, m′) ≡ checkedPart last m (take (cond ended (length s) (cond long (length s) (wholeEnd s))) s)
         → p .lines ≤ length (take (cond ended (length s) (cond long (length s) (wholeEnd s))) s)
         → After (cond ended false (cond long false bad)) ended image (t ++ n) (added lines (p, m′) .0) m′ (drop (cond ended (length s) (cond long (length s) (wholeEnd s))) s)
     by-tests true long bad l b f e few = all-read (e ∙ ap (λ (v : List ℕ). checkedPart last m v) (take-length s)) f
-    by-tests false true bad l b f e few = overran (omega (arith, ltb-true 64 (length s - wholeEnd s) l)) (e ∙ ap (λ (v : List ℕ). checkedPart last m v) (take-length s))
-    by-tests false false true l b f e few = went-on e (eqb-true (p .answer) 0 b) few
-    by-tests false false false l b f e few = stopped e (eqb-false (p .answer) 0 b)
+    by-tests false true bad l b f e few = overran (omega (arith, ltb-true mostHeld (length s - wholeEnd s) l)) (e ∙ ap (λ (v : List ℕ). checkedPart last m v) (take-length s))
+    by-tests false false true l b f e few = went-on e (eqb-true (p .answer) notRefused b) few
+    by-tests false false false l b f e few = stopped e (eqb-false (p .answer) notRefused b)
 
     -- A part is read and checked.
     pub turn : (ended : Bool) → length (t ++ n) ≤ nowhere → (p, m′) ≡ checkedPart last m (take (partEnd ended (length s) (wholeEnd s)) s)
         → p .lines ≤ length (take (partEnd ended (length s) (wholeEnd s)) s)
         → After (another ended (length s) (wholeEnd s) (p .answer)) ended image (t ++ n) (added lines (p, m′) .0) m′ (drop (partEnd ended (length s) (wholeEnd s)) s)
-    turn ended = by-tests ended (ltb 64 (length s - wholeEnd s)) (eqb (p .answer) 0) refl refl
+    turn ended = by-tests ended (ltb mostHeld (length s - wholeEnd s)) (eqb (p .answer) notRefused) refl refl

@@ -5,6 +5,7 @@ use mathlib.Core.List.{List, _++_}
 use native.Mathlib.Omega.{arith}
 use lib.Dec.{eqb}
 use lib.ListN.{length, length-append, length-map}
+use Rattle.laws.specs.Answers.{memoryNotFull}
 use Rattle.manual.specs.declared.Ended.{Ended}
 use Rattle.manual.specs.Outcomes.{number}
 use Rattle.laws.specs.Characters.{characters}
@@ -22,7 +23,7 @@ after-within w =
 -- A line has an end to stand in place of.
 pub line-ends : (q : Ended) → 0 < length (line q)
 unfolding line allFields machineFields
-line-ends q = by-number (eqb (number (q .reason)) 1)
+line-ends q = by-number (eqb (number (q .reason)) memoryNotFull)
   where
     by-number : (t : Bool) → 0 < length (cond t (characters "1\n") (allFields q))
     by-number true = omega arith

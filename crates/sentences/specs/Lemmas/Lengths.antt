@@ -10,7 +10,7 @@ use Rattle.manual.specs.Outcomes.{number}
 use Rattle.text_writing.specs.Numerals.{decimal}
 use Rattle.text_writing.specs.Lemmas.Texts.{decimal-length}
 use Rattle.trace_fields.specs.Fields.{machineFields}
-use Rattle.sentences.specs.Line.{allFields}
+use Rattle.sentences.specs.Line.{allFields, longestLine}
 
 fields-length : (q : Ended)
     → length (allFields q) ≡ length (decimal (number (q .reason))) + length (decimal (q .steps)) + length (decimal (q .machine .cycles)) + 23
@@ -25,7 +25,7 @@ number-most NotAnOpcode = omega arith
 number-most BoundTooHigh = omega arith
 
 -- an answer has one digit and a count of 64 bits has twenty
-pub fields-fit : (q : Ended) → q .steps < 2 ^ 64 → q .machine .cycles < 2 ^ 64 → length (allFields q) ≤ 64
+pub fields-fit : (q : Ended) → q .steps < 2 ^ 64 → q .machine .cycles < 2 ^ 64 → length (allFields q) ≤ longestLine
 fields-fit q s k =
     omega (
       arith,

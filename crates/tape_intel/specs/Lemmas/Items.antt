@@ -8,6 +8,7 @@ use native.Mathlib.Omega.{arith}
 use lib.Dec.{eqb, ltb}
 use lib.ListN.{length, getD, take, drop, length-drop, take-append-drop}
 use lib.Seq.{length-take-le, getD-take, getD-drop}
+use Rattle.laws.specs.Answers.{malformedRecord, wrongSum, pastTheEnd, noEnd}
 use Rattle.text_reading.specs.Numbers.{nowhere, byteAt}
 use Rattle.text_reading.specs.declared.Byte.{Byte}
 use Rattle.tape_records.specs.declared.Parts.{Parts}
@@ -24,8 +25,8 @@ use Rattle.tape_intel.specs.IntelHex.{type, rightSum, dataItem, endItem,
 use Rattle.tape_intel.specs.Inner.Items.{sumRight, toldData, toldEnd, toldBy}
 
 told-data-item : (empty sums past room : Bool) (r : Stretch)
-    → told (cond empty (bad 5) (cond (not sums) (bad 6) (cond past (bad 7) (cond room (stretch r) (bad 8)))))
-    ≡ cond empty (Bad 5) (cond (not sums) (Bad 6) (cond past (Bad 7) (cond room (Data (r .first) (length (r .bytes))) (Bad 8))))
+    → told (cond empty (bad malformedRecord) (cond (not sums) (bad wrongSum) (cond past (bad pastTheEnd) (cond room (stretch r) (bad noEnd)))))
+    ≡ cond empty (Bad malformedRecord) (cond (not sums) (Bad wrongSum) (cond past (Bad pastTheEnd) (cond room (Data (r .first) (length (r .bytes))) (Bad noEnd))))
 told-data-item true b c d r = refl
 told-data-item false false c d r = refl
 told-data-item false true true d r = refl
@@ -33,8 +34,8 @@ told-data-item false true false true r = refl
 told-data-item false true false false r = refl
 
 told-end-item : (sums empty origin : Bool)
-    → told (cond (not sums) (bad 6) (cond empty (cond origin finish (bad 5)) (bad 5)))
-    ≡ cond (not sums) (Bad 6) (cond empty (cond origin End (Bad 5)) (Bad 5))
+    → told (cond (not sums) (bad wrongSum) (cond empty (cond origin finish (bad malformedRecord)) (bad malformedRecord)))
+    ≡ cond (not sums) (Bad wrongSum) (cond empty (cond origin End (Bad malformedRecord)) (Bad malformedRecord))
 told-end-item false b c = refl
 told-end-item true false c = refl
 told-end-item true true true = refl
@@ -70,11 +71,11 @@ module _ (bs : List ℕ) (whole : length bs ≡ count bs + 5) (small : Bytes bs)
 
   by-bytes : (before : ℕ) → told (judge before (some bs)) ≡ toldBy before (type bs) (partsOf bs)
   by-bytes before =
-      told-cond (eqb (type bs) 0) (dataItem before bs) (cond (eqb (type bs) 1) (endItem bs) (bad 5))
-      ∙ rw (told-cond (eqb (type bs) 1) (endItem bs) (bad 5), data-by-parts before, end-by-parts)
+      told-cond (eqb (type bs) 0) (dataItem before bs) (cond (eqb (type bs) 1) (endItem bs) (bad malformedRecord))
+      ∙ rw (told-cond (eqb (type bs) 1) (endItem bs) (bad malformedRecord), data-by-parts before, end-by-parts)
 
 module _ (before : ℕ) (s : List ℕ) where
-  pub item-malformed : Malformed ≡ found (recordOf 58 s) → told (hexItem before s) ≡ Bad 5
+  pub item-malformed : Malformed ≡ found (recordOf 58 s) → told (hexItem before s) ≡ Bad malformedRecord
   unfolding hexItem
   item-malformed e = ap (λ (o : Option (List ℕ)). told (judge before o)) (none-found (recordOf 58 s) e)
 

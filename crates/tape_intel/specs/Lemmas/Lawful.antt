@@ -9,6 +9,7 @@ use lib.Dec.{eqb, ltb}
 use lib.ListN.{length, take, drop, length-append, length-drop}
 use lib.Seq.{take-at, length-take-le}
 use borrow.Author.Tests.{eq-eqb, ne-eqb, lt-ltb, le-ltb, eqb-true, eqb-false, ltb-true, ltb-false}
+use Rattle.laws.specs.Answers.{malformedRecord, wrongSum, pastTheEnd, noEnd}
 use Rattle.text_writing.specs.Numerals.{digit, hex2}
 use Rattle.tape_records.specs.Records.{recordOf, count, address, total, hexes, separator, Bytes}
 use Rattle.tape_records.specs.Lemmas.Whole.{never, record-length, record-small}
@@ -40,10 +41,10 @@ hex-rule =
 
 -- which tests a kind of record has passed
 abbrev chosenData : Bool → Bool → Bool → Bool → Stretch → Item
-chosenData empty sums past room r = cond empty (bad 5) (cond (not sums) (bad 6) (cond past (bad 7) (cond room (stretch r) (bad 8))))
+chosenData empty sums past room r = cond empty (bad malformedRecord) (cond (not sums) (bad wrongSum) (cond past (bad pastTheEnd) (cond room (stretch r) (bad noEnd))))
 
 abbrev chosenEnd : Bool → Bool → Bool → Item
-chosenEnd sums empty origin = cond (not sums) (bad 6) (cond empty (cond origin finish (bad 5)) (bad 5))
+chosenEnd sums empty origin = cond (not sums) (bad wrongSum) (cond empty (cond origin finish (bad malformedRecord)) (bad malformedRecord))
 
 end-no-data : (a b c : Bool) (q : Stretch) → chosenEnd a b c ≡ stretch q → ⊥
 end-no-data false b c q h = never (cc)
@@ -58,7 +59,7 @@ data-no-end false true true d r h = never (cc)
 data-no-end false true false true r h = never (cc)
 data-no-end false true false false r h = never (cc)
 
-only-stretch : (t u a b c d : Bool) (e : Item) (r q : Stretch) → (e ≡ stretch q → ⊥) → cond t (chosenData a b c d r) (cond u e (bad 5)) ≡ stretch q
+only-stretch : (t u a b c d : Bool) (e : Item) (r q : Stretch) → (e ≡ stretch q → ⊥) → cond t (chosenData a b c d r) (cond u e (bad malformedRecord)) ≡ stretch q
     → (r ≡ q) × (t ≡ true) × (a ≡ false) × (b ≡ true) × (c ≡ false) × (d ≡ true)
 only-stretch false false a b c d e r q n h = never (cc)
 only-stretch false true a b c d e r q n h = absurd (n h)
@@ -68,7 +69,7 @@ only-stretch true u false true true d e r q n h = never (cc)
 only-stretch true u false true false false e r q n h = never (cc)
 only-stretch true u false true false true e r q n h = (cc, refl, refl, refl, refl, refl)
 
-only-finish : (t u a b c : Bool) (d : Item) → (d ≡ finish → ⊥) → cond t d (cond u (chosenEnd a b c) (bad 5)) ≡ finish
+only-finish : (t u a b c : Bool) (d : Item) → (d ≡ finish → ⊥) → cond t d (cond u (chosenEnd a b c) (bad malformedRecord)) ≡ finish
     → (u ≡ true) × (a ≡ true) × (b ≡ true) × (c ≡ true)
 only-finish true u a b c d n h = absurd (n h)
 only-finish false false a b c d n h = never (cc)
@@ -91,7 +92,7 @@ bad-end true true true reason h = never (cc)
 bad-end true true false reason h = let same : 5 ≡ reason = cc in omega arith
 
 bad-some : (t u : Bool) (d e : Item) (reason : ℕ) → (d ≡ bad reason → 0 < reason) → (e ≡ bad reason → 0 < reason)
-    → cond t d (cond u e (bad 5)) ≡ bad reason → 0 < reason
+    → cond t d (cond u e (bad malformedRecord)) ≡ bad reason → 0 < reason
 bad-some true u d e reason f g h = f h
 bad-some false true d e reason f g h = g h
 bad-some false false d e reason f g h = let same : 5 ≡ reason = cc in omega arith
@@ -110,7 +111,7 @@ module _ (w : ℕ) (bs : List ℕ) where
   -- a record that is written is read again
   its-item : (before : ℕ) (s : List ℕ) → Bytes bs → 0 < length bs → length bs < 256 → w < 65536
       → hexItem before (recordText w bs ++ s)
-      ≡ cond (ltb 65536 (w + length bs)) (bad 7) (cond (ltb before 65535) (stretch (record { first = w; bytes = bs })) (bad 8))
+      ≡ cond (ltb 65536 (w + length bs)) (bad pastTheEnd) (cond (ltb before 65535) (stretch (record { first = w; bytes = bs })) (bad noEnd))
   unfolding hexItem
   its-item before s small there few w< =
       let found = written-right hex-rule 58 (omega arith) (body 0 w bs) s (few, (omega arith, (omega arith, (omega arith, small)))) (omega arith) in

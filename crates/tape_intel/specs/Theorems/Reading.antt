@@ -4,6 +4,7 @@ use mathlib.Core.Path.{_≡_, refl, ap, _∙_}
 use mathlib.Core.List.{List, [], _∷_, _++_}
 use native.Mathlib.Omega.{arith}
 use lib.ListN.{length, getD}
+use Rattle.laws.specs.Answers.{notRefused}
 use Rattle.manual.specs.Stepping.{fullMemory}
 use Rattle.tape_records.specs.Contents.{Stretch, Contents, Loaded, laid, readOnto}
 use Rattle.tape_records.specs.Grammar.{Text, Fits}
@@ -17,7 +18,7 @@ use Rattle.tape_intel.specs.Grammar.{recordText, endText, HexData, HexEn
 use Rattle.tape_intel.specs.Lemmas.Lawful.{hex-lawful}
 
 -- What is accepted is HEX by the grammar, and what is HEX by the grammar is accepted as its records.
-pub accepted-is-hex : (s : List ℕ) → hexOf s .answer ≡ 0 → Hex (hexOf s .records) s
+pub accepted-is-hex : (s : List ℕ) → hexOf s .answer ≡ notRefused → Hex (hexOf s .records) s
 unfolding hexOf
 accepted-is-hex s z = accepted-by-grammar hexItem HexData HexEnd hex-lawful s z
 
@@ -26,7 +27,7 @@ unfolding hexOf
 hex-is-accepted s rs t = grammar-is-accepted hexItem HexData HexEnd hex-lawful s rs t
 
 -- What is refused is good records up to the place of the first bad one, and bad there.
-pub hex-first-bad : (s : List ℕ) → (hexOf s .answer ≡ 0 → ⊥) → Refused hexItem HexData HexEnd 0 s (hexOf s)
+pub hex-first-bad : (s : List ℕ) → (hexOf s .answer ≡ notRefused → ⊥) → Refused hexItem HexData HexEnd 0 s (hexOf s)
 unfolding hexOf
 hex-first-bad s z = refused-there hexItem HexData HexEnd hex-lawful s z
 
@@ -37,13 +38,13 @@ module _ (s m : List ℕ) where
   hex-complete rs t h = ap (λ (c : Contents). readOnto s c m) (hex-is-accepted s rs t) ∙ read-whole s rs m h
 
   -- What is accepted is HEX by the grammar, and the memory has its records.
-  pub hex-sound : readHex s m .answer ≡ 0
+  pub hex-sound : readHex s m .answer ≡ notRefused
       → (length m ≡ fullMemory) × Hex (hexOf s .records) s × (readHex s m .memory ≡ laid (hexOf s .records) m)
   unfolding readHex
   hex-sound h = let read = onto-good s (hexOf s) m h in (read .0, accepted-is-hex s (read .1), read .2)
 
   -- A refusal stores nothing.
-  pub hex-refused-unchanged : (readHex s m .answer ≡ 0 → ⊥) → readHex s m .memory ≡ m
+  pub hex-refused-unchanged : (readHex s m .answer ≡ notRefused → ⊥) → readHex s m .memory ≡ m
   unfolding readHex
   hex-refused-unchanged h = onto-refused s (hexOf s) m h
 

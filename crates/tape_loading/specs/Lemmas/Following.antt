@@ -4,6 +4,7 @@ use mathlib.Core.Path.{_≡_, sym, _∙_}
 use mathlib.Core.List.{List}
 use lib.ListN.{length, drop}
 use borrow.Author.Tests.{lt-ltb, le-ltb}
+use Rattle.laws.specs.Answers.{notRefused, malformedRecord, noEnd}
 use Rattle.tape_records.specs.Contents.{Stretch, stretch}
 use Rattle.tape_records.specs.Inner.Gaps.{gapEnd}
 use Rattle.tape_records.specs.declared.Item.{Item as Told}
@@ -17,7 +18,7 @@ use Rattle.tape_loading.specs.Inner.Following.{stopAt, nextBy, nextOf}
 
 -- A law for each way out of the code, from what it found where the gap ends.
 module _ (f : Format) (s : List ℕ) (at before : ℕ) {place : ℕ} (ends : place ≡ gapEnd s at) where
-  pub no-more : length s ≤ place → stopAt 8 before (length s) ≡ nextOf f s at before
+  pub no-more : length s ≤ place → stopAt noEnd before (length s) ≡ nextOf f s at before
   unfolding nextOf
   no-more h = rw (← ends, le-ltb place (length s) h)
 
@@ -30,10 +31,10 @@ module _ (f : Format) (s : List ℕ) (at before : ℕ) {place : ℕ} (ends : pla
     next-bad {reason} k = sym (there ∙ rw (told-bad (itemOf f before t) reason (sym k ∙ q)))
 
     module _ (k : item ≡ End) {end : ℕ} (gap : end ≡ gapEnd s (place + 11)) where
-      pub next-stray : end < length s → stopAt 5 (before + 1) end ≡ nextOf f s at before
+      pub next-stray : end < length s → stopAt malformedRecord (before + 1) end ≡ nextOf f s at before
       next-stray g = sym (there ∙ rw (told-end (itemOf f before t) (sym k ∙ q), ← gap, lt-ltb end (length s) g))
 
-      pub next-end : length s ≤ end → stopAt 0 (before + 1) (length s) ≡ nextOf f s at before
+      pub next-end : length s ≤ end → stopAt notRefused (before + 1) (length s) ≡ nextOf f s at before
       next-end g = sym (there ∙ rw (told-end (itemOf f before t) (sym k ∙ q), ← gap, le-ltb end (length s) g))
 
     pub next-data : {w n head : ℕ} → item ≡ Data w n → head ≡ headSize f

@@ -9,6 +9,7 @@ use lib.Dec.{ltb}
 use lib.ListN.{length, getD, drop, length-drop}
 use lib.Seq.{sets, drop-drop, getD-drop}
 use borrow.Author.Tests.{ltb-true, ltb-false}
+use Rattle.laws.specs.Answers.{notRefused, malformedRecord, noEnd}
 use Rattle.manual.specs.Stepping.{fullMemory}
 use Rattle.text_reading.specs.Numbers.{nowhere}
 use Rattle.tape_records.specs.Records.{separator, bytesOf, hexes}
@@ -56,7 +57,7 @@ module _ (f : Format) (s : List ℕ) (at before : ℕ) where
   skipped : contents (itemOf f) 0 before (drop at s) ≡ contents (itemOf f) 0 before (drop place s)
   skipped = past-gap (itemOf f) before (drop at s) ∙ rw (drop-drop (gapLength (drop at s)) at s)
 
-  no-record : length s ≤ place → Stops f s at before (record { answer = 8; good = before; place = length s })
+  no-record : length s ≤ place → Stops f s at before (record { answer = noEnd; good = before; place = length s })
   no-record h =
       let none : length s - length s ≡ 0 = omega arith in
       record { says = rw none (skipped ∙ at-end (itemOf f) s place before h); within = omega arith }
@@ -79,7 +80,7 @@ module _ (f : Format) (s : List ℕ) (at before : ℕ) where
       size = length-drop (place + 11) s
 
       end-record : (b : Bool) → ltb (gapEnd s (place + 11)) (length s) ≡ b
-          → NextIs f s at before (cond b (stopAt 5 (before + 1) (gapEnd s (place + 11))) (stopAt 0 (before + 1) (length s)))
+          → NextIs f s at before (cond b (stopAt malformedRecord (before + 1) (gapEnd s (place + 11))) (stopAt notRefused (before + 1) (length s)))
       end-record true g =
           let stray : gapEnd s (place + 11) < length s = ltb-true (gapEnd s (place + 11)) (length s) g in
           let left : length (drop (place + 11) s) - gapLength (drop (place + 11) s) ≡ length s - gapEnd s (place + 11) = omega (arith, size) in
@@ -128,7 +129,7 @@ module _ (f : Format) (s : List ℕ) (at before : ℕ) where
   next-is fits = by-place (ltb place (length s)) refl
     where
       by-place : (b : Bool) → ltb place (length s) ≡ b
-          → NextIs f s at before (cond b (nextBy f s before place (itemOf f before (drop place s))) (stopAt 8 before (length s)))
+          → NextIs f s at before (cond b (nextBy f s before place (itemOf f before (drop place s))) (stopAt noEnd before (length s)))
       by-place true g = by-item (ltb-true place (length s) g) fits (itemOf f before (drop place s)) refl
       by-place false g = no-record (ltb-false place (length s) g)
 
@@ -159,10 +160,10 @@ module _ (s m : List ℕ) (c : Contents) (full : length m ≡ fullMemory) {v : V
   same-answer : v .answer ≡ c .answer
   same-answer = ap (λ (x : Loaded). x .answer) first
 
-  pub read-refused : (v .answer ≡ 0 → ⊥) → withMemory v m ≡ readOnto s c m
+  pub read-refused : (v .answer ≡ notRefused → ⊥) → withMemory v m ≡ readOnto s c m
   read-refused h =
       ap (λ (x : Loaded). record { answer = x .answer; good = x .good; place = x .place; memory = m }) first
       ∙ sym (read-bad s c m full (λ z. h (same-answer ∙ z)))
 
-  pub read-laid : v .answer ≡ 0 → {x : Loaded} → x ≡ outcome s c (laid (c .records) m) → x ≡ readOnto s c m
+  pub read-laid : v .answer ≡ notRefused → {x : Loaded} → x ≡ outcome s c (laid (c .records) m) → x ≡ readOnto s c m
   read-laid z e = e ∙ sym (read-good s c m full (sym same-answer ∙ z))

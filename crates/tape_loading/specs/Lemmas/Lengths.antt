@@ -5,6 +5,7 @@ use mathlib.Core.List.{List, _++_}
 use native.Mathlib.Omega.{arith}
 use lib.Dec.{eqb}
 use lib.ListN.{length, length-append}
+use Rattle.laws.specs.Answers.{notRefused, memoryNotFull, malformedRecord, wrongSum, pastTheEnd}
 use Rattle.laws.specs.Characters.{characters}
 use Rattle.text_writing.specs.Numerals.{decimal}
 use Rattle.text_writing.specs.Written.{Wrote}
@@ -12,7 +13,7 @@ use Rattle.text_writing.specs.Lemmas.Texts.{decimal-length, within}
 use Rattle.tape_loading.specs.declared.Format.{Format}
 use Rattle.tape_loading.specs.declared.Format.the-variants.{Tape, Hex}
 use Rattle.tape_loading.specs.declared.Verdict.{Verdict}
-use Rattle.tape_loading.specs.Sentence.{malformed, unended, reason, goodSentence, goodRecords, badSentence, sentence}
+use Rattle.tape_loading.specs.Sentence.{malformed, unended, reason, goodSentence, goodRecords, badSentence, sentence, longestSentence}
 
 -- the longest reason
 abbrev pub longest : Format → ℕ
@@ -32,7 +33,7 @@ other-length Tape = omega arith
 other-length Hex = omega arith
 
 reason-length : (f : Format) (answer : ℕ) → length (reason f answer) ≤ longest f
-reason-length f answer = by-tests (eqb answer 5) (eqb answer 6) (eqb answer 7)
+reason-length f answer = by-tests (eqb answer malformedRecord) (eqb answer wrongSum) (eqb answer pastTheEnd)
   where
     by-tests : (t u v : Bool) → length (cond t (malformed f) (cond u (characters "a wrong sum\n") (cond v (characters "past FFFF\n") (unended f)))) ≤ longest f
     by-tests true u v = malformed-length f
@@ -72,7 +73,7 @@ module _ (f : Format) (v : Verdict) (good< : v .good < 18446744073709551616) (pl
 
   pub sentence-length : length (sentence f v) ≤ 85 + longest f
   unfolding sentence
-  sentence-length = by-tests (eqb (v .answer) 0) (eqb (v .answer) 1)
+  sentence-length = by-tests (eqb (v .answer) notRefused) (eqb (v .answer) memoryNotFull)
     where
       by-tests : (t u : Bool)
           → length (cond t (goodSentence (v .good)) (cond u (characters "refused: the image is not 65536 bytes long\n") (badSentence f v))) ≤ 85 + longest f
@@ -80,11 +81,10 @@ module _ (f : Format) (v : Verdict) (good< : v .good < 18446744073709551616) (pl
       by-tests false true = omega arith
       by-tests false false = bad-length
 
--- the sentence, and its bound of 160 characters
-at-most : (f : Format) → 85 + longest f ≤ 160
+at-most : (f : Format) → 85 + longest f ≤ longestSentence
 at-most Tape = omega arith
 at-most Hex = omega arith
 
 pub said : (f : Format) (v : Verdict) → v .good < 18446744073709551616 → v .place < 18446744073709551616
-    → {l l′ : List ℕ} {at next : ℕ} → Wrote l at (sentence f v) l′ next → Wrote l at (sentence f v) l′ next × (next ≤ at + 160)
+    → {l l′ : List ℕ} {at next : ℕ} → Wrote l at (sentence f v) l′ next → Wrote l at (sentence f v) l′ next × (next ≤ at + longestSentence)
 said f v g p w = (w, omega (arith, within w (sentence-length f v g p), at-most f))

@@ -9,6 +9,7 @@ use native.Mathlib.Omega.{arith}
 use lib.Dec.{eqb}
 use lib.ListN.{length, getD}
 use borrow.Author.Tests.{eq-eqb, ne-eqb}
+use Rattle.laws.specs.Answers.{malformedRecord}
 use Rattle.tape_records.specs.Records.{separator, onlySeparators, byteOf, counted, recordOf}
 use Rattle.tape_records.specs.Contents.{Stretch, Item, Contents, judged, contents, Loaded, readOnto}
 use Rattle.tape_records.specs.Grammar.{Gap, Text}
@@ -107,7 +108,7 @@ not-marked : (c : ℕ) (s : List ℕ) → (c ≡ 59 → ⊥) → recordOf 59 (c 
 unfolding recordOf
 not-marked c s h = rw (ne-eqb c 59 h)
 
-no-item : (c : ℕ) (s : List ℕ) (more : ℕ → Contents) → (c ≡ 59 → ⊥) → judged (tapeItem 0 (c ∷ s)) 0 (c ∷ s) more .answer ≡ 5
+no-item : (c : ℕ) (s : List ℕ) (more : ℕ → Contents) → (c ≡ 59 → ⊥) → judged (tapeItem 0 (c ∷ s)) 0 (c ∷ s) more .answer ≡ malformedRecord
 unfolding tapeItem
 no-item c s more h = rw (not-marked c s h)
 

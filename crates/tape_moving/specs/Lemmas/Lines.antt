@@ -6,6 +6,7 @@ use mathlib.Core.Option.{Option, some}
 use native.Mathlib.Omega.{arith}
 use lib.ListN.{length, take, drop, length-append}
 use lib.Seq.{take-at, drop-drop}
+use Rattle.laws.specs.Answers.{notRefused}
 use Rattle.text_writing.specs.Written.{Wrote}
 use Rattle.tape_records.specs.Records.{bytesOf, hexes}
 use Rattle.tape_records.specs.Inner.Reading.{summed}
@@ -57,7 +58,7 @@ line-here f n w place s h r e wrote =
     rw (two, e, r, drop-drop 1 (place - 1) s, one) at wrote
 
 -- What is accepted has records that fit, and at most 65,535 of them.
-pub accepted-records : (f : Format) (s : List ℕ) → contentsOf f s .answer ≡ 0
+pub accepted-records : (f : Format) (s : List ℕ) → contentsOf f s .answer ≡ notRefused
     → Fits (contentsOf f s .records) × (length (contentsOf f s .records) < 65536)
 accepted-records Tape s z =
     let few = tape-records (contentsOf Tape s .records) 0 s (accepted-by-grammar tapeItem TapeData TapeEnd tape-lawful s z) in

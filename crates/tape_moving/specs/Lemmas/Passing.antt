@@ -4,6 +4,7 @@ use mathlib.Core.Path.{_≡_, refl, ap, sym, _∙_}
 use mathlib.Core.List.{List, _++_}
 use native.Mathlib.Omega.{arith}
 use lib.ListN.{length, take, drop}
+use Rattle.laws.specs.Answers.{notRefused}
 use Rattle.text_writing.specs.Written.{Wrote}
 use Rattle.text_writing.specs.Lemmas.Left.{Left, less-left}
 use Rattle.tape_records.specs.Contents.{Stretch, Contents, stop, andThen, contents}
@@ -28,7 +29,7 @@ pub record Underway (to : Format) (s : List ℕ) (X x : Contents) (l₀ l : List
 pub record Finished (to : Format) (s : List ℕ) (X : Contents) (l₀ l : List ℕ) (size before : ℕ) (v : Verdict) : Type 0 where
   pub says : v ≡ verdictOf s X
   pub counts : before ≡ length (X .records)
-  pub writes : Left l size (textFrom to before (stop 0 0 0 .records)) l₀ 0 (textFrom to 0 (X .records))
+  pub writes : Left l size (textFrom to before (stop notRefused 0 0 .records)) l₀ 0 (textFrom to 0 (X .records))
 
 module _ {to : Format} {X x : Contents} {s l₀ l : List ℕ} {size before : ℕ} (u : Underway to s X x l₀ l size before) where
   one-moved : (r : Stretch) {y : Contents} {l′ : List ℕ} {size′ : ℕ} → x ≡ andThen r y
@@ -66,7 +67,7 @@ module _ {f to : Format} {X : Contents} {s l₀ l : List ℕ} {at size before : 
 
 -- no more than 65,535 records were written if all is good
 pub few-moved : (f : Format) (s : List ℕ) {to : Format} {l₀ l : List ℕ} {size before : ℕ} {v : Verdict}
-    → Finished to s (contentsOf f s) l₀ l size before v → v .answer ≡ 0 → before < 65536
+    → Finished to s (contentsOf f s) l₀ l size before v → v .answer ≡ notRefused → before < 65536
 few-moved f s e z =
     omega (arith, e .counts, accepted-records f s (sym (ap (λ (x : Verdict). x .answer) (e .says)) ∙ z) .1)
 
@@ -75,8 +76,8 @@ module _ {to : Format} {s : List ℕ} {X : Contents} {l₀ l : List ℕ} {size b
   same-answer : v .answer ≡ X .answer
   same-answer = ap (λ (x : Verdict). x .answer) (e .says)
 
-  pub bad-passed : (v .answer ≡ 0 → ⊥) → {n : ℕ} → Passed to s X l₀ l (record { verdict = v; size = n })
+  pub bad-passed : (v .answer ≡ notRefused → ⊥) → {n : ℕ} → Passed to s X l₀ l (record { verdict = v; size = n })
   bad-passed h = record { says = e .says; writes = λ z. absurd (h (same-answer ∙ z)) }
 
-  pub good-passed : {l′ : List ℕ} {n : ℕ} → Wrote l size (textFrom to before (stop 0 0 0 .records)) l′ n → Passed to s X l₀ l′ (record { verdict = v; size = n })
+  pub good-passed : {l′ : List ℕ} {n : ℕ} → Wrote l size (textFrom to before (stop notRefused 0 0 .records)) l′ n → Passed to s X l₀ l′ (record { verdict = v; size = n })
   good-passed w = record { says = e .says; writes = λ z. e .writes _ _ w }

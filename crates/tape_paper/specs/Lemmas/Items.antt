@@ -8,6 +8,7 @@ use native.Mathlib.Omega.{arith}
 use lib.Dec.{eqb, ltb}
 use lib.ListN.{length, take, drop, length-drop}
 use lib.Seq.{length-take-le}
+use Rattle.laws.specs.Answers.{malformedRecord, wrongSum, pastTheEnd, noEnd}
 use Rattle.tape_records.specs.declared.Parts.{Parts}
 use Rattle.tape_records.specs.declared.Found.the-variants.{Record, Malformed}
 use Rattle.tape_records.specs.Records.{recordOf, count, address, sum, last}
@@ -26,17 +27,17 @@ data-length bs h = length-take-le (count bs) (drop 3 bs) (simp length-drop (omeg
 
 pub by-bytes : (before : ℕ) (bs : List ℕ) → length bs ≡ count bs + 5 → told (judge before (some bs)) ≡ toldBy before (partsOf bs)
 by-bytes before bs h =
-    told-cond (not (eqb (sum bs) (last bs))) (bad 6) _
-    ∙ ap (λ (t : Told). cond (not (eqb (sum bs) (last bs))) (Bad 6) t)
-    (told-cond (eqb (count bs) 0) (cond (eqb (address bs) before) finish (bad 8)) _
+    told-cond (not (eqb (sum bs) (last bs))) (bad wrongSum) _
+    ∙ ap (λ (t : Told). cond (not (eqb (sum bs) (last bs))) (Bad wrongSum) t)
+    (told-cond (eqb (count bs) 0) (cond (eqb (address bs) before) finish (bad noEnd)) _
     ∙ rw (
-      told-cond (eqb (address bs) before) finish (bad 8),
-      told-cond (ltb 65536 (address bs + count bs)) (bad 7) (stretch (record { first = address bs; bytes = take (count bs) (drop 3 bs) })),
+      told-cond (eqb (address bs) before) finish (bad noEnd),
+      told-cond (ltb 65536 (address bs + count bs)) (bad pastTheEnd) (stretch (record { first = address bs; bytes = take (count bs) (drop 3 bs) })),
       data-length bs h,
     ))
 
 module _ (before : ℕ) (s : List ℕ) where
-  pub item-malformed : Malformed ≡ found (recordOf 59 s) → told (tapeItem before s) ≡ Bad 5
+  pub item-malformed : Malformed ≡ found (recordOf 59 s) → told (tapeItem before s) ≡ Bad malformedRecord
   unfolding tapeItem
   item-malformed e = ap (λ (o : Option (List ℕ)). told (judge before o)) (none-found (recordOf 59 s) e)
 
@@ -50,7 +51,7 @@ module _ (before : ℕ) (s : List ℕ) where
 
 -- which tests a kind of record has passed
 abbrev chosen : Bool → Bool → Bool → Bool → Stretch → Item
-chosen sums empty numbers past r = cond (not sums) (bad 6) (cond empty (cond numbers finish (bad 8)) (cond past (bad 7) (stretch r)))
+chosen sums empty numbers past r = cond (not sums) (bad wrongSum) (cond empty (cond numbers finish (bad noEnd)) (cond past (bad pastTheEnd) (stretch r)))
 
 pub only-stretch : (t u v x : Bool) (r q : Stretch) → chosen t u v x r ≡ stretch q → (r ≡ q) × (t ≡ true) × (u ≡ false) × (x ≡ false)
 only-stretch false u v x r q e = never (cc)

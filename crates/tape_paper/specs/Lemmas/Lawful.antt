@@ -9,6 +9,7 @@ use lib.Dec.{eqb, ltb}
 use lib.ListN.{length, take, drop, length-append, length-drop}
 use lib.Seq.{take-at, drop-at, length-take-le}
 use borrow.Author.Tests.{eq-eqb, ne-eqb, le-ltb, eqb-true, eqb-false, ltb-false}
+use Rattle.laws.specs.Answers.{pastTheEnd, noEnd}
 use Rattle.text_writing.specs.Numerals.{hex4}
 use Rattle.tape_records.specs.Records.{recordOf, count, address, sum, last, total, word, hexes, separator, Bytes}
 use Rattle.tape_records.specs.Lemmas.Whole.{never, record-length, record-small}
@@ -66,8 +67,8 @@ module _ (w : ℕ) (bs : List ℕ) where
   -- a record that is written is read again
   its-item : (before : ℕ) (s : List ℕ) → Bytes bs → length bs < 256 → w < 65536
       → tapeItem before (recordText w bs ++ s)
-      ≡ cond (eqb (length bs) 0) (cond (eqb w before) finish (bad 8))
-      (cond (ltb 65536 (w + length bs)) (bad 7) (stretch (record { first = w; bytes = bs })))
+      ≡ cond (eqb (length bs) 0) (cond (eqb w before) finish (bad noEnd))
+      (cond (ltb 65536 (w + length bs)) (bad pastTheEnd) (stretch (record { first = w; bytes = bs })))
   unfolding tapeItem
   its-item before s small few w< =
       let found = written-right tape-rule 59 (omega arith) (body w bs) s (few, (omega arith, (omega arith, small))) (omega arith) in

@@ -4,6 +4,7 @@ use mathlib.Core.Path.{_≡_, refl, ap, _∙_}
 use mathlib.Core.List.{List, [], _∷_, _++_}
 use native.Mathlib.Omega.{arith}
 use lib.ListN.{length, getD}
+use Rattle.laws.specs.Answers.{notRefused}
 use Rattle.manual.specs.Stepping.{fullMemory}
 use Rattle.tape_records.specs.Contents.{Stretch, Contents, laid, readOnto}
 use Rattle.tape_records.specs.Grammar.{Text, Fits}
@@ -17,7 +18,7 @@ use Rattle.tape_paper.specs.Grammar.{recordText, TapeData, TapeEnd, Tape
 use Rattle.tape_paper.specs.Lemmas.Lawful.{tape-lawful}
 
 -- What is accepted is a tape by the grammar, and what is a tape by the grammar is accepted as its records.
-pub accepted-is-a-tape : (s : List ℕ) → tapeOf s .answer ≡ 0 → Tape (tapeOf s .records) s
+pub accepted-is-a-tape : (s : List ℕ) → tapeOf s .answer ≡ notRefused → Tape (tapeOf s .records) s
 unfolding tapeOf
 accepted-is-a-tape s z = accepted-by-grammar tapeItem TapeData TapeEnd tape-lawful s z
 
@@ -26,7 +27,7 @@ unfolding tapeOf
 tape-is-accepted s rs t = grammar-is-accepted tapeItem TapeData TapeEnd tape-lawful s rs t
 
 -- What is refused is good records up to the place of the first bad one, and bad there.
-pub first-bad : (s : List ℕ) → (tapeOf s .answer ≡ 0 → ⊥) → Refused tapeItem TapeData TapeEnd 0 s (tapeOf s)
+pub first-bad : (s : List ℕ) → (tapeOf s .answer ≡ notRefused → ⊥) → Refused tapeItem TapeData TapeEnd 0 s (tapeOf s)
 unfolding tapeOf
 first-bad s z = refused-there tapeItem TapeData TapeEnd tape-lawful s z
 
@@ -37,13 +38,13 @@ module _ (s m : List ℕ) where
   read-complete rs t h = ap (λ (c : Contents). readOnto s c m) (tape-is-accepted s rs t) ∙ read-whole s rs m h
 
   -- What is accepted is a tape by the grammar, and the memory has its records.
-  pub read-sound : readTape s m .answer ≡ 0
+  pub read-sound : readTape s m .answer ≡ notRefused
       → (length m ≡ fullMemory) × Tape (tapeOf s .records) s × (readTape s m .memory ≡ laid (tapeOf s .records) m)
   unfolding readTape
   read-sound h = let read = onto-good s (tapeOf s) m h in (read .0, accepted-is-a-tape s (read .1), read .2)
 
   -- A refusal stores nothing.
-  pub refused-unchanged : (readTape s m .answer ≡ 0 → ⊥) → readTape s m .memory ≡ m
+  pub refused-unchanged : (readTape s m .answer ≡ notRefused → ⊥) → readTape s m .memory ≡ m
   unfolding readTape
   refused-unchanged h = onto-refused s (tapeOf s) m h
 

@@ -7,6 +7,7 @@ use native.Mathlib.Omega.{arith}
 use borrow.Author.Tests.{eq-eqb, le-ltb}
 use lib.ListN.{length, getD, take, drop, set, length-take, replicate}
 use lib.Seq.{sets, sets-eq, length-slice, getD-drop, getD-take, ext-getD}
+use Rattle.laws.specs.Answers.{notRefused}
 use Rattle.manual.specs.Stepping.{fullMemory}
 use Rattle.laws.specs.Characters.{characters}
 use Rattle.text_writing.specs.Lemmas.Delivered.{written}
@@ -18,7 +19,7 @@ use Rattle.tape_records.specs.Grammar.{Fits}
 use Rattle.tape_paper.specs.Tapes.{readTape}
 use Rattle.tape_paper.specs.Grammar.{tapeText}
 use Rattle.tape_paper.specs.Theorems.Reading.{written-read}
-use Rattle.tape_punching.specs.Punching.{cut, stretchOf, tapeFrom, tapeInto}
+use Rattle.tape_punching.specs.Punching.{cut, stretchOf, tapeFrom, tapeInto, longestTape}
 use Rattle.tape_punching.specs.Lemmas.Punching.{tape-size}
 use Rattle.tape_punching.specs.Lemmas.Outcomes.{text-length, answered}
 
@@ -85,7 +86,7 @@ module _ (m : List ℕ) (first last : ℕ) (full : length m ≡ fullMemory) (ord
 
   -- A tape of a stretch, read onto any full memory, gives the stretch and leaves all else.
   pub tape-read : Bytes m → (m′ : List ℕ) → length m′ ≡ fullMemory
-      → (readTape (tapeFrom m first last) m′ .answer ≡ 0)
+      → (readTape (tapeFrom m first last) m′ .answer ≡ notRefused)
       × (readTape (tapeFrom m first last) m′ .memory ≡ take first m′ ++ stretchOf m first last ++ drop (suc last) m′)
   unfolding tapeFrom
   tape-read small m′ full′ =
@@ -101,9 +102,9 @@ module _ (m : List ℕ) (first last : ℕ) (full : length m ≡ fullMemory) (ord
       )
 
 -- The same of what stands in the buffer after a punching that was not refused.
-pub punched-read : (m : List ℕ) (first last : ℕ) (buffer : List ℕ) → tapeInto m first last buffer .answer ≡ 0 → Bytes m → last < 65536
+pub punched-read : (m : List ℕ) (first last : ℕ) (buffer : List ℕ) → tapeInto m first last buffer .answer ≡ notRefused → Bytes m → last < 65536
     → (m′ : List ℕ) → length m′ ≡ fullMemory
-    → (readTape (written (tapeInto m first last buffer)) m′ .answer ≡ 0)
+    → (readTape (written (tapeInto m first last buffer)) m′ .answer ≡ notRefused)
     × (readTape (written (tapeInto m first last buffer)) m′ .memory ≡ take first m′ ++ stretchOf m first last ++ drop (suc last) m′)
 punched-read m first last buffer z small last< m′ full′ =
     let good = answered m first last buffer z in
@@ -111,14 +112,14 @@ punched-read m first last buffer z small last< m′ full′ =
 
 -- A buffer of 166,588 characters is always enough, and a tape of the whole memory fills it.
 pub punch-room : (m : List ℕ) (first last : ℕ) (buffer : List ℕ) → length m ≡ fullMemory → first ≤ last → last < 65536
-    → 166588 ≤ length buffer
-    → tapeInto m first last buffer .answer ≡ 0
+    → longestTape ≤ length buffer
+    → tapeInto m first last buffer .answer ≡ notRefused
 unfolding tapeInto
 punch-room m first last buffer full ordered last< room =
     let fits : length (tapeFrom m first last) ≤ length buffer = omega (arith, text-length m first last full last<) in
     rw (eq-eqb (length m) fullMemory full, le-ltb last first ordered, le-ltb (length buffer) (length (tapeFrom m first last)) fits)
 
-pub longest-tape : (m : List ℕ) → length m ≡ fullMemory → length (tapeFrom m 0 65535) ≡ 166588
+pub longest-tape : (m : List ℕ) → length m ≡ fullMemory → length (tapeFrom m 0 65535) ≡ longestTape
 unfolding tapeFrom
 longest-tape m full =
     let whole : length (stretchOf m 0 65535) ≡ 65536 = length-slice 0 (suc 65535) m (omega arith) in

@@ -8,6 +8,7 @@ use native.Mathlib.Numerals.{add-one}
 use native.Mathlib.Omega.{arith}
 use lib.ListN.{length, getD, drop, drop-of-length-le}
 use lib.Seq.{drop-cons}
+use Rattle.laws.specs.Answers.{notRefused, malformedRecord}
 use Rattle.tape_records.specs.Records.{separator, onlySeparators}
 use Rattle.tape_records.specs.Contents.{Item, stop, ended, contents}
 use Rattle.tape_records.specs.Lemmas.Whole.{never}
@@ -47,43 +48,43 @@ no-separator (c ∷ l) h = by-case (separator c) refl h (no-separator l)
 
 -- What follows an end record is all gap, or it is not.
 module _ (good : ℕ) where
-  pub gap-whole : (l : List ℕ) → length l ≤ gapLength l → ended good l ≡ stop 0 good 0
+  pub gap-whole : (l : List ℕ) → length l ≤ gapLength l → ended good l ≡ stop notRefused good 0
   gap-whole [] h = refl
   gap-whole (c ∷ l) h = by-case (separator c) h (gap-whole l)
     where
-      by-case : (b : Bool) → suc (length l) ≤ cond b (suc (gapLength l)) 0 → (length l ≤ gapLength l → ended good l ≡ stop 0 good 0)
-          → cond b (ended good l) (stop 5 good (suc (length l))) ≡ stop 0 good 0
+      by-case : (b : Bool) → suc (length l) ≤ cond b (suc (gapLength l)) 0 → (length l ≤ gapLength l → ended good l ≡ stop notRefused good 0)
+          → cond b (ended good l) (stop malformedRecord good (suc (length l))) ≡ stop notRefused good 0
       by-case true g further = further (omega arith)
       by-case false g further = absurd (omega arith)
 
-  pub gap-part : (l : List ℕ) → gapLength l < length l → ended good l ≡ stop 5 good (length l - gapLength l)
+  pub gap-part : (l : List ℕ) → gapLength l < length l → ended good l ≡ stop malformedRecord good (length l - gapLength l)
   gap-part [] h = absurd (omega arith)
   gap-part (c ∷ l) h = by-case (separator c) h (gap-part l)
     where
       by-case : (b : Bool) → cond b (suc (gapLength l)) 0 < suc (length l)
-          → (gapLength l < length l → ended good l ≡ stop 5 good (length l - gapLength l))
-          → cond b (ended good l) (stop 5 good (suc (length l))) ≡ stop 5 good (suc (length l) - cond b (suc (gapLength l)) 0)
+          → (gapLength l < length l → ended good l ≡ stop malformedRecord good (length l - gapLength l))
+          → cond b (ended good l) (stop malformedRecord good (suc (length l))) ≡ stop malformedRecord good (suc (length l) - cond b (suc (gapLength l)) 0)
       by-case true g further =
           let one : suc (length l) - suc (gapLength l) ≡ length l - gapLength l = omega arith in
           rw one (further (omega arith))
       by-case false g further = let all : suc (length l) - 0 ≡ suc (length l) = omega arith in rw all
 
   -- the same by the grammar's gap
-  pub ended-well : (l : List ℕ) → onlySeparators l ≡ true → ended good l ≡ stop 0 good 0
+  pub ended-well : (l : List ℕ) → onlySeparators l ≡ true → ended good l ≡ stop notRefused good 0
   ended-well [] h = refl
   ended-well (c ∷ l) h = by-case (separator c) h (ended-well l)
     where
-      by-case : (b : Bool) → cond b (onlySeparators l) false ≡ true → (onlySeparators l ≡ true → ended good l ≡ stop 0 good 0)
-          → cond b (ended good l) (stop 5 good (suc (length l))) ≡ stop 0 good 0
+      by-case : (b : Bool) → cond b (onlySeparators l) false ≡ true → (onlySeparators l ≡ true → ended good l ≡ stop notRefused good 0)
+          → cond b (ended good l) (stop malformedRecord good (suc (length l))) ≡ stop notRefused good 0
       by-case true g further = further g
       by-case false g further = never (cc)
 
-  pub well-ended : (l : List ℕ) → ended good l .answer ≡ 0 → (onlySeparators l ≡ true) × (ended good l ≡ stop 0 good 0)
+  pub well-ended : (l : List ℕ) → ended good l .answer ≡ notRefused → (onlySeparators l ≡ true) × (ended good l ≡ stop notRefused good 0)
   well-ended [] h = (refl, refl)
   well-ended (c ∷ l) h = by-case (separator c) h (well-ended l)
     where
-      by-case : (b : Bool) → cond b (ended good l) (stop 5 good (suc (length l))) .answer ≡ 0
-          → (ended good l .answer ≡ 0 → (onlySeparators l ≡ true) × (ended good l ≡ stop 0 good 0))
-          → (cond b (onlySeparators l) false ≡ true) × (cond b (ended good l) (stop 5 good (suc (length l))) ≡ stop 0 good 0)
+      by-case : (b : Bool) → cond b (ended good l) (stop malformedRecord good (suc (length l))) .answer ≡ notRefused
+          → (ended good l .answer ≡ notRefused → (onlySeparators l ≡ true) × (ended good l ≡ stop notRefused good 0))
+          → (cond b (onlySeparators l) false ≡ true) × (cond b (ended good l) (stop malformedRecord good (suc (length l))) ≡ stop notRefused good 0)
       by-case true g further = further g
       by-case false g further = absurd (omega arith)

@@ -6,6 +6,7 @@ use mathlib.Core.List.{List, [], _∷_}
 use native.Mathlib.Omega.{arith}
 use lib.ListN.{length, getD, drop, drop-of-length-le}
 use lib.Seq.{drop-cons, drop-drop, drop-nil}
+use Rattle.laws.specs.Answers.{noEnd}
 use Rattle.tape_records.specs.Records.{separator}
 use Rattle.tape_records.specs.Contents.{Stretch, Item, stretch, finish, bad, stop, andThen, ended, judged, contents}
 
@@ -16,7 +17,7 @@ module _ (item : ℕ → List ℕ → Item) where
   skip (suc passed) count (c ∷ s) = skip passed count s
 
   module _ (s : List ℕ) (i count : ℕ) where
-    pub at-end : length s ≤ i → contents item 0 count (drop i s) ≡ stop 8 count 0
+    pub at-end : length s ≤ i → contents item 0 count (drop i s) ≡ stop noEnd count 0
     at-end h = rw (drop-of-length-le s h)
 
     module _ (h : i < length s) (e : separator (getD s i 0) ≡ false) where

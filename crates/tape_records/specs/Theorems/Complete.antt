@@ -6,6 +6,7 @@ use mathlib.Core.List.{List, [], _∷_, _++_, append-assoc}
 use native.Mathlib.Omega.{arith}
 use lib.ListN.{length, drop}
 use lib.Seq.{drop-at}
+use Rattle.laws.specs.Answers.{notRefused}
 use Rattle.tape_records.specs.Records.{separator, onlySeparators}
 use Rattle.tape_records.specs.Contents.{Stretch, Item, Contents, andThen, judged, contents}
 use Rattle.tape_records.specs.Lemmas.Gaps.{ended-well}
@@ -36,7 +37,7 @@ behind size (c ∷ t) s h = drop-at t s size (omega arith)
 
 -- good contents: the data records rs after so many others, and the end record
 abbrev pub whole : ℕ → List Stretch → Contents
-whole before rs = record { records = rs; answer = 0; good = before + length rs + 1; left = 0 }
+whole before rs = record { records = rs; answer = notRefused; good = before + length rs + 1; left = 0 }
 
 module _ (item : ℕ → List ℕ → Item) (Data : ℕ → Stretch → List ℕ → Type 0) (End : ℕ → List ℕ → Type 0) (lawful : Lawful item Data End) where
   complete-from : (rs : List Stretch) (before : ℕ) (s : List ℕ) → Text Data End before rs s → contents item 0 before s ≡ whole before rs

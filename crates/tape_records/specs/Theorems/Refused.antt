@@ -7,6 +7,7 @@ use mathlib.Core.Logic.{_⊎_, inl, inr}
 use native.Mathlib.Omega.{arith}
 use lib.ListN.{length, getD, drop}
 use lib.Seq.{drop-nil}
+use Rattle.laws.specs.Answers.{notRefused, malformedRecord, noEnd}
 use Rattle.tape_records.specs.Records.{separator}
 use Rattle.tape_records.specs.Contents.{Stretch, Item, stretch, finish, bad, Contents, stop, ended, judged, contents}
 use Rattle.tape_records.specs.Grammar.{Gap}
@@ -26,7 +27,7 @@ module _ (item : ℕ → List ℕ → Item) (Data : ℕ → Stretch → List ℕ
     pub text : s ≡ front ++ rest
     pub size : length rest ≡ c .left
     pub counted : c .good ≡ before + length (c .records)
-    pub reason : (item (c .good) rest ≡ bad (c .answer)) ⊎ ((rest ≡ []) × (c .answer ≡ 8))
+    pub reason : (item (c .good) rest ≡ bad (c .answer)) ⊎ ((rest ≡ []) × (c .answer ≡ noEnd))
 
   -- after the front stand a good end record, a gap, and a character that is no separator
   pub record Stray (before : ℕ) (s : List ℕ) (c : Contents) : Type 0 where
@@ -41,7 +42,7 @@ module _ (item : ℕ → List ℕ → Item) (Data : ℕ → Stretch → List ℕ
     pub size : length rest ≡ c .left
     pub counted : c .good ≡ before + length (c .records) + 1
     pub there : (0 < length rest) × (separator (getD rest 0 0) ≡ false)
-    pub reason : c .answer ≡ 5
+    pub reason : c .answer ≡ malformedRecord
 
   abbrev pub Refused : ℕ → List ℕ → Contents → Type 0
   Refused before s c = BadRecord before s c ⊎ Stray before s c
@@ -119,14 +120,14 @@ module _ (item : ℕ → List ℕ → Item) (Data : ℕ → Stretch → List ℕ
     pub good-gap : Gap gap
     pub text : l ≡ gap ++ rest
     pub there : (0 < length rest) × (separator (getD rest 0 0) ≡ false)
-    pub says : ended k l ≡ stop 5 k (length rest)
+    pub says : ended k l ≡ stop malformedRecord k (length rest)
 
-  after-end : (k : ℕ) (l : List ℕ) → (ended k l .answer ≡ 0 → ⊥) → After k l
+  after-end : (k : ℕ) (l : List ℕ) → (ended k l .answer ≡ notRefused → ⊥) → After k l
   after-end k [] h = absurd (h refl)
   after-end k (c ∷ l) h = by-test (separator c) refl h (after-end k l)
     where
-      by-test : (b : Bool) → separator c ≡ b → (cond b (ended k l) (stop 5 k (suc (length l))) .answer ≡ 0 → ⊥)
-          → ((ended k l .answer ≡ 0 → ⊥) → After k l) → After k (c ∷ l)
+      by-test : (b : Bool) → separator c ≡ b → (cond b (ended k l) (stop malformedRecord k (suc (length l))) .answer ≡ notRefused → ⊥)
+          → ((ended k l .answer ≡ notRefused → ⊥) → After k l) → After k (c ∷ l)
       by-test true e g more =
           let a = more g in
           record {
@@ -141,9 +142,9 @@ module _ (item : ℕ → List ℕ → Item) (Data : ℕ → Stretch → List ℕ
 
   module _ (lawful : Lawful item Data End) where
     abbrev Wrong : ℕ → List ℕ → Contents → Type 0
-    Wrong before s x = (x .answer ≡ 0 → ⊥) → Refused before s x
+    Wrong before s x = (x .answer ≡ notRefused → ⊥) → Refused before s x
 
-    none-left : (before : ℕ) → Refused before [] (stop 8 before 0)
+    none-left : (before : ℕ) → Refused before [] (stop noEnd before 0)
     none-left before =
         inl (record { front = []; rest = []; good-front = refl; text = refl; size = refl; counted = omega arith; reason = inr (refl, refl) })
 
@@ -191,5 +192,5 @@ module _ (item : ℕ → List ℕ → Item) (Data : ℕ → Stretch → List ℕ
     wrong-from (c ∷ s) (suc passed) before z = wrong-from s passed before z
     wrong-from (c ∷ s) zero before z = by-character c s (wrong-from s) before (separator c) refl z
 
-    pub refused-there : (s : List ℕ) → (contents item 0 0 s .answer ≡ 0 → ⊥) → Refused 0 s (contents item 0 0 s)
+    pub refused-there : (s : List ℕ) → (contents item 0 0 s .answer ≡ notRefused → ⊥) → Refused 0 s (contents item 0 0 s)
     refused-there s z = wrong-from s 0 0 z

@@ -5,6 +5,7 @@ use mathlib.Core.Bool.{Bool, true, false, cond}
 use mathlib.Core.List.{List, [], _∷_}
 use native.Mathlib.Omega.{arith}
 use lib.ListN.{length, drop}
+use Rattle.laws.specs.Answers.{notRefused}
 use Rattle.tape_records.specs.Records.{separator}
 use Rattle.tape_records.specs.Contents.{Stretch, Item, stretch, finish, bad, Contents, ended, judged, contents}
 use Rattle.tape_records.specs.Lemmas.Gaps.{well-ended}
@@ -17,7 +18,7 @@ module _ (item : ℕ → List ℕ → Item) (Data : ℕ → Stretch → List ℕ
   longer-gap before (r ∷ rs) c s e t = (c ∷ t .0, t .1, t .2, rw e (t .3), t .4, t .5, ap (λ (l : List ℕ). c ∷ l) (t .6))
 
   abbrev Sound : ℕ → List ℕ → Contents → Type 0
-  Sound before s t = t .answer ≡ 0 → Text Data End before (t .records) s
+  Sound before s t = t .answer ≡ notRefused → Text Data End before (t .records) s
 
   module _ (c : ℕ) (s : List ℕ) (sound : (passed before : ℕ) → Sound before (drop passed s) (contents item passed before s)) (before : ℕ) where
     abbrev further : ℕ → Contents
@@ -47,5 +48,5 @@ module _ (item : ℕ → List ℕ → Item) (Data : ℕ → Stretch → List ℕ
   sound-from (c ∷ s) (suc passed) before z = sound-from s passed before z
   sound-from (c ∷ s) zero before z = by-character c s (sound-from s) before (separator c) refl z
 
-  pub accepted-by-grammar : (s : List ℕ) → contents item 0 0 s .answer ≡ 0 → Text Data End 0 (contents item 0 0 s .records) s
+  pub accepted-by-grammar : (s : List ℕ) → contents item 0 0 s .answer ≡ notRefused → Text Data End 0 (contents item 0 0 s .records) s
   accepted-by-grammar s z = sound-from s 0 0 z

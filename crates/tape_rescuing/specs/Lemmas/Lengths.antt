@@ -5,10 +5,11 @@ use mathlib.Core.List.{List, _++_}
 use native.Mathlib.Omega.{arith}
 use lib.Dec.{eqb}
 use lib.ListN.{length, length-append}
+use Rattle.laws.specs.Answers.{notRefused}
 use Rattle.laws.specs.Characters.{characters}
 use Rattle.text_writing.specs.Numerals.{decimal}
 use Rattle.text_writing.specs.Lemmas.Texts.{decimal-length}
-use Rattle.tape_rescuing.specs.Sentence.{keptRecords, keptSentence, lostSentence}
+use Rattle.tape_rescuing.specs.Sentence.{keptRecords, keptSentence, lostSentence, longestSentence}
 
 -- a part after another
 most : (s t : List ℕ) {a b : ℕ} → length s ≤ a → length t ≤ b → length (s ++ t) ≤ a + b
@@ -24,17 +25,17 @@ kept-records-length k h = by-number (eqb k 1)
     by-number true = omega (arith, most (decimal k) (characters " record is kept") {b = 15} (number-length k h) (omega arith))
     by-number false = omega (arith, most (decimal k) (characters " records are kept") {b = 17} (number-length k h) (omega arith))
 
-pub kept-length : (k read : ℕ) → k < 18446744073709551616 → length (keptSentence k read) ≤ 128
-kept-length k read h = by-answer (eqb read 0)
+pub kept-length : (k read : ℕ) → k < 18446744073709551616 → length (keptSentence k read) ≤ longestSentence
+kept-length k read h = by-answer (eqb read notRefused)
   where
     by-answer : (b : Bool) → length (cond b (characters "nothing was dropped: " ++ keptRecords k ++ characters "\n")
-        (keptRecords k ++ characters "; something between records may have been one, or one is missing\n")) ≤ 128
+        (keptRecords k ++ characters "; something between records may have been one, or one is missing\n")) ≤ longestSentence
     by-answer true =
         omega (arith, most (characters "nothing was dropped: " ++ keptRecords k) (characters "\n") {b = 1} (most (characters "nothing was dropped: ") (keptRecords k) {a = 21} (omega arith) (kept-records-length k h)) (omega arith))
     by-answer false =
         omega (arith, most (keptRecords k) (characters "; something between records may have been one, or one is missing\n") {b = 70} (kept-records-length k h) (omega arith))
 
-pub lost-length : (k d f : ℕ) → k < 18446744073709551616 → d < 18446744073709551616 → f < 18446744073709551616 → length (lostSentence k d f) ≤ 128
+pub lost-length : (k d f : ℕ) → k < 18446744073709551616 → d < 18446744073709551616 → f < 18446744073709551616 → length (lostSentence k d f) ≤ longestSentence
 lost-length k d f k< d< f< =
     let one = characters "torn: " ++ keptRecords k in
     let two = one ++ characters ", " in

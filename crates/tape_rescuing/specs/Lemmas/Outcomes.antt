@@ -7,6 +7,7 @@ use native.Mathlib.Omega.{arith}
 use lib.Dec.{ltb}
 use lib.ListN.{length, length-append}
 use borrow.Author.Tests.{lt-ltb, le-ltb, ltb-false}
+use Rattle.laws.specs.Answers.{notRefused, noEnd, noRoom}
 use Rattle.tape_records.specs.Contents.{Stretch}
 use Rattle.tape_records.specs.Grammar.{Fits, newline}
 use Rattle.tape_paper.specs.Grammar.{recordText, tapeText}
@@ -30,7 +31,7 @@ text-length (r ∷ rs) k f =
     )
 
 module _ (s buffer : List ℕ) {l l′ : List ℕ} {measured : Pass} (first : Passed (saved 0 s) l l′ measured) where
-  pub too-many : 65535 < measured .kept → refused 8 buffer ≡ rescued s buffer
+  pub too-many : 65535 < measured .kept → refused noEnd buffer ≡ rescued s buffer
   unfolding rescued
   too-many h = let many : 65535 < length (saved 0 s .records) = omega (arith, first .keeps, h) in rw (lt-ltb 65535 (length (saved 0 s .records)) many)
 
@@ -41,14 +42,14 @@ module _ (s buffer : List ℕ) {l l′ : List ℕ} {measured : Pass} (first : Pa
     its-size : measured .size ≡ length (tapeText 0 (saved 0 s .records))
     its-size = omega (arith, first .writes (omega arith) .ends, text-length (saved 0 s .records) 0 (kept-fits 0 s), few-records)
 
-    pub no-room : length buffer < measured .size → refused 10 buffer ≡ rescued s buffer
+    pub no-room : length buffer < measured .size → refused noRoom buffer ≡ rescued s buffer
     unfolding rescued
     no-room h =
         let short : length buffer < length (tapeText 0 (saved 0 s .records)) = omega (arith, its-size, h) in
         rw (le-ltb 65535 (length (saved 0 s .records)) few-records, lt-ltb (length buffer) (length (tapeText 0 (saved 0 s .records))) short)
 
     pub all-written : measured .size ≤ length buffer → {buffer′ : List ℕ} {p : Pass} → Passed (saved 0 s) buffer buffer′ p
-        → record { answer = 0; size = p .size; kept = p .kept; dropped = p .dropped; first = p .first; buffer = buffer′ } ≡ rescued s buffer
+        → record { answer = notRefused; size = p .size; kept = p .kept; dropped = p .dropped; first = p .first; buffer = buffer′ } ≡ rescued s buffer
     unfolding rescued
     all-written h {buffer′} {p} pass =
         let holds : length (tapeText 0 (saved 0 s .records)) ≤ length buffer = omega (arith, its-size, h) in
@@ -71,22 +72,22 @@ rescued-fits s buffer e =
     rw e (by-tests (ltb 65535 (length (saved 0 s .records))) (ltb (length buffer) (length (tapeText 0 (saved 0 s .records)))) refl)
   where
     by-tests : (b t : Bool) → ltb (length buffer) (length (tapeText 0 (saved 0 s .records))) ≡ t
-        → cond b (refused 8 buffer) (cond t (refused 10 buffer) (restored (saved 0 s) buffer)) .size ≤ length buffer
+        → cond b (refused noEnd buffer) (cond t (refused noRoom buffer) (restored (saved 0 s) buffer)) .size ≤ length buffer
     by-tests true t g = omega arith
     by-tests false true g = omega arith
     by-tests false false g = ltb-false (length buffer) (length (tapeText 0 (saved 0 s .records))) g
 
 -- What was not refused is written.
-pub answered : (s buffer : List ℕ) → rescued s buffer .answer ≡ 0
+pub answered : (s buffer : List ℕ) → rescued s buffer .answer ≡ notRefused
     → (length (saved 0 s .records) ≤ 65535) × (length (tapeText 0 (saved 0 s .records)) ≤ length buffer) × (rescued s buffer ≡ restored (saved 0 s) buffer)
 unfolding rescued
 answered s buffer z =
     by-tests (ltb 65535 (length (saved 0 s .records))) (ltb (length buffer) (length (tapeText 0 (saved 0 s .records)))) refl refl z
   where
     by-tests : (b t : Bool) → ltb 65535 (length (saved 0 s .records)) ≡ b → ltb (length buffer) (length (tapeText 0 (saved 0 s .records))) ≡ t
-        → cond b (refused 8 buffer) (cond t (refused 10 buffer) (restored (saved 0 s) buffer)) .answer ≡ 0
+        → cond b (refused noEnd buffer) (cond t (refused noRoom buffer) (restored (saved 0 s) buffer)) .answer ≡ notRefused
         → (length (saved 0 s .records) ≤ 65535) × (length (tapeText 0 (saved 0 s .records)) ≤ length buffer)
-        × (cond b (refused 8 buffer) (cond t (refused 10 buffer) (restored (saved 0 s) buffer)) ≡ restored (saved 0 s) buffer)
+        × (cond b (refused noEnd buffer) (cond t (refused noRoom buffer) (restored (saved 0 s) buffer)) ≡ restored (saved 0 s) buffer)
     by-tests true t f g y = absurd (omega arith)
     by-tests false true f g y = absurd (omega arith)
     by-tests false false f g y =

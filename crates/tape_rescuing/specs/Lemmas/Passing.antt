@@ -9,6 +9,7 @@ use lib.Dec.{eqb}
 use lib.ListN.{length, take, drop, length-append}
 use lib.Seq.{take-at}
 use borrow.Author.Tests.{ne-eqb, eqb-true}
+use Rattle.laws.specs.Answers.{malformedRecord}
 use Rattle.text_writing.specs.Written.{Wrote}
 use Rattle.text_writing.specs.Lemmas.Left.{Left, less-left}
 use Rattle.tape_records.specs.declared.Parts.{Parts}
@@ -79,10 +80,10 @@ module _ {X : Saved} {l₀ l : List ℕ} {next kept dropped first end : ℕ} (u 
 
 -- a record's worth, as the code tells it
 module _ (s : List ℕ) where
-  pub worth-malformed : Malformed ≡ foundParts (recordOf 59 s) → told (worth (recordOf 59 s)) ≡ Bad 5
+  pub worth-malformed : Malformed ≡ foundParts (recordOf 59 s) → told (worth (recordOf 59 s)) ≡ Bad malformedRecord
   worth-malformed e = by-case (recordOf 59 s) e
     where
-      by-case : (o : Option (List ℕ)) → Malformed ≡ foundParts o → told (worth o) ≡ Bad 5
+      by-case : (o : Option (List ℕ)) → Malformed ≡ foundParts o → told (worth o) ≡ Bad malformedRecord
       by-case none f = refl
       by-case (some bs) f = never (cc)
 

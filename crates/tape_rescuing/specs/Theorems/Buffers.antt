@@ -5,6 +5,7 @@ use mathlib.Core.List.{List}
 use native.Mathlib.Omega.{arith}
 use lib.ListN.{length, take}
 use borrow.Author.Tests.{le-ltb}
+use Rattle.laws.specs.Answers.{notRefused}
 use Rattle.manual.specs.Stepping.{fullMemory}
 use Rattle.text_writing.specs.Lemmas.Delivered.{at-front}
 use Rattle.tape_records.specs.Contents.{Stretch}
@@ -21,7 +22,7 @@ use Rattle.tape_rescuing.specs.Lemmas.Outcomes.{answered}
 abbrev pub written : Outcome → List ℕ
 written x = take (x .size) (x .buffer)
 
-module _ (s buffer : List ℕ) (good : rescued s buffer .answer ≡ 0) where
+module _ (s buffer : List ℕ) (good : rescued s buffer .answer ≡ notRefused) where
   pub its-text : written (rescued s buffer) ≡ tapeText 0 (saved 0 s .records)
   its-text = let known = answered s buffer good in ap written (known .2) ∙ at-front (tapeText 0 (saved 0 s .records)) buffer (known .1)
 

@@ -7,6 +7,7 @@ use mathlib.Core.List.{List, [], _∷_, _++_}
 use lib.Dec.{eqb}
 use lib.ListN.{length, getD}
 use borrow.Author.Tests.{eq-eqb}
+use Rattle.laws.specs.Answers.{notRefused}
 use Rattle.tape_records.specs.Records.{recordOf}
 use Rattle.tape_records.specs.Lemmas.Whole.{never}
 use Rattle.tape_records.specs.Contents.{Item, stretch, finish, bad}
@@ -43,7 +44,7 @@ kept-from at n (c ∷ s) = by-item (eqb c 59) (worth (recordOf 59 (c ∷ s))) re
     by-item false x e f same more = none (λ d h. never (let z : true ≡ false = sym (begins-mark c s d h) ∙ e in cc)) same
 
 -- What a rescue that is not refused writes is these records, in order and unchanged, with CR LF and a fresh end record, and it counts them.
-pub kept-there : (s buffer : List ℕ) → rescued s buffer .answer ≡ 0 → Rescues 0 s (rescued s buffer .kept) (written (rescued s buffer))
+pub kept-there : (s buffer : List ℕ) → rescued s buffer .answer ≡ notRefused → Rescues 0 s (rescued s buffer .kept) (written (rescued s buffer))
 kept-there s buffer good =
     let count : rescued s buffer .kept ≡ length (saved 0 s .records) = ap (λ (x : Outcome). x .kept) (answered s buffer good .2) in
     rw (its-text s buffer good, count) (kept-from 0 0 s)

@@ -1,11 +1,12 @@
 -- What the entries of a part show, in the words of the rules.
 use Prim.Native.Nat.{ℕ, zero, suc, _+_, _<_, _≤_}
 use mathlib.Core.Path.{_≡_, refl, ap, sym, _∙_, subst}
-use mathlib.Core.Bool.{Bool, true, false}
+use mathlib.Core.Bool.{Bool, true, false, true≢false}
 use mathlib.Core.List.{List, [], _∷_, _++_, append-assoc, append-nil}
 use native.Mathlib.Omega.{arith}
 use lib.ListN.{length, drop, length-append, length-drop}
 use lib.Seq.{drop-at}
+use Rattle.laws.specs.Answers.{malformedEntry, strayEntry}
 use Rattle.manual.specs.declared.Machine.{Machine}
 use Rattle.text_reading.specs.Numbers.{nowhere}
 use Rattle.trace_line.specs.declared.Spelled.{Spelled}
@@ -32,15 +33,12 @@ accepted-by : (last : Last) (t : Machine) (m : List ℕ) {m′ : List ℕ} → A
 accepted-by Start t m e = ap (λ (l : List ℕ). (true, l)) e
 accepted-by (After s) t m h = followed-by s t m h
 
-untrue : {A : Type 0} → true ≡ false → A
-untrue e = let z : _≡_ {A = ℕ} 0 1 = cc in absurd (omega arith)
-
 not-accepted : (last : Last) (t : Machine) (m m′ : List ℕ) → accepted last t m ≡ (false, m′) → m′ ≡ m
-not-accepted Start t m m′ e = untrue (ap (λ (w : Bool × List ℕ). w .0) e)
+not-accepted Start t m m′ e = absurd (true≢false (ap (λ (w : Bool × List ℕ). w .0) e))
 not-accepted (After s) t m m′ e = not-followed s t m m′ e
 
 not-both : (w : Bool × List ℕ) {m m′ : List ℕ} → w ≡ (false, m) → w ≡ (true, m′) → ⊥
-not-both w e f = untrue (sym (ap (λ (v : Bool × List ℕ). v .0) f) ∙ ap (λ (v : Bool × List ℕ). v .0) e)
+not-both w e f = true≢false (sym (ap (λ (v : Bool × List ℕ). v .0) f) ∙ ap (λ (v : Bool × List ℕ). v .0) e)
 
 -- a state that may not stand there
 stays : (last : Last) (t : Machine) (m : List ℕ) (w : Bool × List ℕ) → accepted last t m ≡ w → ((e : List ℕ) → Admits last m t e → ⊥)
@@ -82,7 +80,7 @@ module _ (k : ℕ) (last : Last) (m text : List ℕ) {l : List Machine} {last′
   rest-fits fits = omega (arith, ap length (a .text-is), length-append (logText l) rest)
 
 pub astray-line : (k : ℕ) (last : Last) (m : List ℕ) (t : Machine) (rest : List ℕ) → Spellable t → ((e : List ℕ) → Admits last m t e → ⊥)
-    → later 0 k last m (lineText t ++ rest) ≡ (partOf 12 k last, m)
+    → later 0 k last m (lineText t ++ rest) ≡ (partOf strayEntry k last, m)
 astray-line k last m t rest h never =
     at-line k last m t rest h
     ∙ ap (ifAccepted k last (λ m′. later 0 (k + 1) (After t) m′ rest)) (stays last t m (accepted last t m) refl never)
@@ -117,8 +115,8 @@ one-more k last t m m₁ text rest o h g e v = go v
 
     go : PartVerdict (k + 1) (After t) m₁ rest o → PartVerdict k last m text o
     go (all l last′ m′ a q) = all (t ∷ l) last′ m′ (longer a) (counted 0 (length l) last′ m′ q)
-    go (malformed l last′ m′ tail a some never q) = malformed (t ∷ l) last′ m′ tail (longer a) some never (counted 11 (length l) last′ m′ q)
-    go (astray l last′ m′ v tail a spelled never q) = astray (t ∷ l) last′ m′ v tail (longer a) spelled never (counted 12 (length l) last′ m′ q)
+    go (malformed l last′ m′ tail a some never q) = malformed (t ∷ l) last′ m′ tail (longer a) some never (counted malformedEntry (length l) last′ m′ q)
+    go (astray l last′ m′ v tail a spelled never q) = astray (t ∷ l) last′ m′ v tail (longer a) spelled never (counted strayEntry (length l) last′ m′ q)
 
 -- no entry is accepted
 none : (last : Last) (m text : List ℕ) → Accepted last m text [] last m text
@@ -139,7 +137,7 @@ module _ (n k : ℕ) (last : Last) (m text : List ℕ) (short : length text < su
   by-state q e (false, m₁) f =
       let written = line.read-written text fits q e in
       let long : 0 < q .next = omega (arith, written .size, line.line-length (q .machine)) in
-      let answer : later 0 k last m text ≡ (partOf 12 k last, m₁) = at-state k last m text q some e long ∙ rw f in
+      let answer : later 0 k last m text ≡ (partOf strayEntry k last, m₁) = at-state k last m text q some e long ∙ rw f in
       let count : k + 0 ≡ k = omega arith in
       astray [] last m (q .machine) (drop (q .next) text) (record { spellable = tt; follow = (refl, refl); text-is = written .text }) (written .spellable)
       (λ e′ g. not-both (accepted last (q .machine) m) f (accepted-by last (q .machine) m g))

@@ -7,6 +7,7 @@ use native.Mathlib.Omega.{arith}
 use lib.ListN.{length, drop, length-drop, drop-of-length-le}
 use lib.Seq.{drop-drop}
 use borrow.Author.Tests.{eq-eqb, ne-eqb}
+use Rattle.laws.specs.Answers.{notRefused, memoryNotFull, malformedEntry, strayEntry}
 use Rattle.manual.specs.declared.Machine.{Machine}
 use Rattle.manual.specs.Stepping.{fullMemory}
 use Rattle.text_reading.specs.Numbers.{nowhere}
@@ -34,7 +35,7 @@ skip-line zero k j last t c text some w = absurd (omega arith)
 skip-line (suc size) k j last t c text some (true, m) = let one : suc size - 1 ≡ size = omega arith in rw one (skip size j (After t) m text)
 skip-line (suc size) k j last t c text some (false, m) = refl
 
-pub at-malformed : (k : ℕ) (last : Last) (m text : List ℕ) → 0 < length text → lineOf text ≡ Malformed → later 0 k last m text ≡ (partOf 11 k last, m)
+pub at-malformed : (k : ℕ) (last : Last) (m text : List ℕ) → 0 < length text → lineOf text ≡ Malformed → later 0 k last m text ≡ (partOf malformedEntry k last, m)
 unfolding later
 at-malformed k last m [] some e = absurd (omega arith)
 at-malformed k last m (c ∷ text) some e = rw e
@@ -49,7 +50,7 @@ at-state k last m (c ∷ text) q some e size =
 
 -- ---- for the loop
 
-pub turn-end : (text : List ℕ) (at k : ℕ) (last : Last) (m : List ℕ) → length text ≤ at → later 0 k last m (drop at text) ≡ (partOf 0 k last, m)
+pub turn-end : (text : List ℕ) (at k : ℕ) (last : Last) (m : List ℕ) → length text ≤ at → later 0 k last m (drop at text) ≡ (partOf notRefused k last, m)
 unfolding later
 turn-end text at k last m h = rw (drop-of-length-le text {i = at} h)
 
@@ -88,7 +89,7 @@ module _ (text : List ℕ) (at : ℕ) (fits : length text ≤ nowhere) (inside :
       omega (arith, q .3, read-written (drop at text) (omega (arith, left)) (q .0) (q .1) .inside)
 
   module _ (k : ℕ) (last : Last) (m : List ℕ) where
-    pub turn-malformed : r ≡ Malformed → later 0 k last m (drop at text) ≡ (partOf 11 k last, m)
+    pub turn-malformed : r ≡ Malformed → later 0 k last m (drop at text) ≡ (partOf malformedEntry k last, m)
     turn-malformed g = at-malformed k last m (drop at text) some-left (from-malformed at (lineOf (drop at text)) (sym e ∙ g))
 
     turn-state : (p : Spelled) → r ≡ State p
@@ -103,7 +104,7 @@ module _ (text : List ℕ) (at : ℕ) (fits : length text ≤ nowhere) (inside :
       pub turn-accepted : b ≡ true → later 0 k last m (drop at text) ≡ later 0 (k + 1) (After (p .machine)) m′ (drop (p .next) text)
       turn-accepted h = turn-state p g ∙ rw (← f, h)
 
-      pub turn-astray : b ≡ false → later 0 k last m (drop at text) ≡ (partOf 12 k last, m′)
+      pub turn-astray : b ≡ false → later 0 k last m (drop at text) ≡ (partOf strayEntry k last, m′)
       turn-astray h = turn-state p g ∙ rw (← f, h)
 
 -- an answer, with the memory left
@@ -113,11 +114,11 @@ told {m = m} e g = ap (λ r. (r, m)) e ∙ sym g
 -- ---- the lengths
 
 module _ (image text copy : List ℕ) where
-  pub short-image : (length image ≡ fullMemory → ⊥) → checkedTrace image text copy ≡ (checkedOf 1 0, copy)
+  pub short-image : (length image ≡ fullMemory → ⊥) → checkedTrace image text copy ≡ (checkedOf memoryNotFull 0, copy)
   unfolding checkedTrace
   short-image h = rw (ne-eqb (length image) fullMemory h)
 
-  pub short-copy : length image ≡ fullMemory → (length copy ≡ fullMemory → ⊥) → checkedTrace image text copy ≡ (checkedOf 1 0, copy)
+  pub short-copy : length image ≡ fullMemory → (length copy ≡ fullMemory → ⊥) → checkedTrace image text copy ≡ (checkedOf memoryNotFull 0, copy)
   unfolding checkedTrace
   short-copy f h = rw (eq-eqb (length image) fullMemory f, ne-eqb (length copy) fullMemory h)
 

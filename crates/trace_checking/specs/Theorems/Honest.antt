@@ -5,6 +5,7 @@ use mathlib.Core.List.{List, [], _∷_}
 use native.Mathlib.Decide.{decLt}
 use native.Mathlib.Omega.{arith}
 use lib.ListN.{length}
+use Rattle.laws.specs.Answers.{notRefused}
 use Rattle.manual.specs.declared.Machine.{Machine}
 use Rattle.manual.specs.declared.Stepped.{Stepped}
 use Rattle.manual.specs.declared.Ended.{Ended}
@@ -93,7 +94,7 @@ honest-steps (suc n) s m s′ m′ full h b led =
 module _ (image copy : List ℕ) (s : Machine) (full : length image ≡ fullMemory) (full-copy : length copy ≡ fullMemory) (bytes : Bytes image) (h : Spellable s) where
   -- However many steps are made, the log of their states is accepted, and the copy is left as they leave the memory.
   pub honest-accepted : (n : ℕ) (s′ : Machine) (m′ : List ℕ) → Leads n idle s image s′ m′
-      → checkedTrace image (printed n s image) copy ≡ (checkedOf 0 0, m′)
+      → checkedTrace image (printed n s image) copy ≡ (checkedOf notRefused 0, m′)
   honest-accepted n s′ m′ led =
       let steps = honest-steps n s image s′ m′ full h bytes led in
       log-accepted image (printed n s image) copy full full-copy m′
@@ -108,11 +109,11 @@ module _ (image copy : List ℕ) (s : Machine) (full : length image ≡ fullMemo
 
   -- The same for a run, whatever its answer: of one that was stopped the steps that it made.
   pub run-accepted : (bound : ℕ) {q : Ended} {m′ : List ℕ} → Gives (run (length image) bound idle s) image q m′
-      → checkedTrace image (printed (q .steps) s image) copy ≡ (checkedOf 0 0, m′)
+      → checkedTrace image (printed (q .steps) s image) copy ≡ (checkedOf notRefused 0, m′)
   run-accepted bound g = by-table (run-answers (length image) bound idle s image .0 g)
     where
       by-table : {q : Ended} {m′ : List ℕ} → RunTable (length image) bound idle s image q m′
-          → checkedTrace image (printed (q .steps) s image) copy ≡ (checkedOf 0 0, m′)
+          → checkedTrace image (printed (q .steps) s image) copy ≡ (checkedOf notRefused 0, m′)
       by-table (ran a (all-made led)) = honest-accepted bound _ _ led
       by-table (ran a (no-cycle-room {k} l led r)) = honest-accepted k _ _ led
       by-table (ran a (not-an-opcode {k} l led r)) = honest-accepted k _ _ led

@@ -8,10 +8,11 @@ use native.Mathlib.Omega.{arith}
 use lib.Dec.{eqb}
 use lib.ListN.{length, getD, take, drop, length-append, length-drop, take-append-drop, List·getD-append}
 use lib.Seq.{drop-at, getD-drop}
+use Rattle.laws.specs.Answers.{malformedEntry}
 use Rattle.manual.specs.declared.Machine.{Machine}
 use Rattle.text_reading.specs.Numbers.{nowhere}
 use Rattle.trace_fields.specs.Fields.{machineFields}
-use Rattle.trace_line.specs.Lines.{lineText}
+use Rattle.trace_line.specs.Lines.{lineText, longestLine}
 use Rattle.trace_line.specs.Theorems.Lines as line
 use Rattle.trace_checking.specs.declared.Last.{Last}
 use Rattle.trace_checking.specs.declared.Part.{Part}
@@ -31,7 +32,7 @@ feed-at a w =
     ∙ sym (getD-drop (length a) (a ++ 10 ∷ w) 0 0)
     ∙ ap (λ (l : List ℕ). getD l 0 0) (drop-at a (10 ∷ w) (length a) refl)
 
-module _ (s : List ℕ) (long : wholeEnd s + 41 ≤ length s) where
+module _ (s : List ℕ) (long : wholeEnd s + longestLine ≤ length s) where
   abbrev rest : List ℕ
   rest = drop (wholeEnd s) s
 
@@ -49,7 +50,7 @@ module _ (s : List ℕ) (long : wholeEnd s + 41 ≤ length s) where
       ∙ feed-at (machineFields t) w in
       no-feed s (wholeEnd s + i) (omega arith) (omega arith) feed
 
-  bad : (last : Last) (m v : List ℕ) → length (rest ++ v) ≤ nowhere → checkedPart last m (rest ++ v) ≡ (partOf 11 0 last, m)
+  bad : (last : Last) (m v : List ℕ) → length (rest ++ v) ≤ nowhere → checkedPart last m (rest ++ v) ≡ (partOf malformedEntry 0 last, m)
   bad last m v fits =
       at-malformed 0 last m (rest ++ v) (omega (arith, length-append rest v, length-drop (wholeEnd s) s)) (line.malformed (rest ++ v) fits .1 (no-line v))
 

@@ -8,6 +8,7 @@ use native.Mathlib.Decide.{ℕ-discrete}
 use native.Mathlib.Omega.{arith}
 use lib.ListN.{length, length-append}
 use borrow.Author.Tests.{ne-eqb}
+use Rattle.laws.specs.Answers.{notRefused, memoryNotFull, malformedEntry, strayEntry}
 use Rattle.manual.specs.declared.Machine.{Machine}
 use Rattle.manual.specs.Stepping.{fullMemory}
 use Rattle.text_reading.specs.Numbers.{nowhere}
@@ -49,10 +50,10 @@ counted : (answer n : ℕ) (last : Last) (m : List ℕ) → _≡_ {A = Part × L
 counted answer n last m = let count : 0 + n ≡ n = omega arith in ap (λ (k : ℕ). (partOf answer k last, m)) count
 
 module _ (image text copy : List ℕ) where
-  not-full-only : ((length image ≡ fullMemory) × (length copy ≡ fullMemory) → ⊥) → checkedTrace image text copy ≡ (checkedOf 1 0, copy)
+  not-full-only : ((length image ≡ fullMemory) × (length copy ≡ fullMemory) → ⊥) → checkedTrace image text copy ≡ (checkedOf memoryNotFull 0, copy)
   not-full-only never = by-length (ℕ-discrete (length image) fullMemory)
     where
-      by-length : Dec (length image ≡ fullMemory) → checkedTrace image text copy ≡ (checkedOf 1 0, copy)
+      by-length : Dec (length image ≡ fullMemory) → checkedTrace image text copy ≡ (checkedOf memoryNotFull 0, copy)
       by-length (yes f) = short-copy image text copy f (λ h. never (f, h))
       by-length (no n) = short-image image text copy n
 
@@ -63,12 +64,12 @@ module _ (image text copy : List ℕ) where
     by-part e = both-full image text copy full full-copy ∙ ap closing e
 
     -- at least one entry
-    by-lines : {n : ℕ} {last : Last} {m′ : List ℕ} → later 0 0 Start image text ≡ (partOf 0 (suc n) last, m′)
-        → checkedTrace image text copy ≡ (checkedOf 0 0, m′)
+    by-lines : {n : ℕ} {last : Last} {m′ : List ℕ} → later 0 0 Start image text ≡ (partOf notRefused (suc n) last, m′)
+        → checkedTrace image text copy ≡ (checkedOf notRefused 0, m′)
     by-lines {n} e = by-part e ∙ rw (ne-eqb (suc n) 0 (λ z. omega arith))
 
     -- A log is accepted, and the copy is left as its last entry leaves it.
-    pub log-accepted : (m′ : List ℕ) → Log image text m′ → checkedTrace image text copy ≡ (checkedOf 0 0, m′)
+    pub log-accepted : (m′ : List ℕ) → Log image text m′ → checkedTrace image text copy ≡ (checkedOf notRefused 0, m′)
     log-accepted m′ g =
         let n = length (g .others) in
         by-lines
@@ -80,9 +81,9 @@ module _ (image text copy : List ℕ) where
     of-part (all (s ∷ l) last m′ a q) e =
         accepted full full-copy m′ (log-of image text s l last m′ a) (by-lines (e ∙ q ∙ counted 0 (suc (length l)) last m′))
     of-part (malformed l last m′ rest a some never q) e =
-        bad-line full full-copy l last m′ rest a (inl some) never (by-part (e ∙ q ∙ counted 11 (length l) last m′))
+        bad-line full full-copy l last m′ rest a (inl some) never (by-part (e ∙ q ∙ counted malformedEntry (length l) last m′))
     of-part (astray l last m′ t rest a spelled never q) e =
-        bad-state full full-copy l last m′ t rest a spelled never (by-part (e ∙ q ∙ counted 12 (length l) last m′))
+        bad-state full full-copy l last m′ t rest a spelled never (by-part (e ∙ q ∙ counted strayEntry (length l) last m′))
 
   -- Whatever is answered is what the rules describe.
   pub verdict-of : length text ≤ nowhere → Verdict image text copy (checkedTrace image text copy)
@@ -104,33 +105,33 @@ module _ (image text copy : List ℕ) where
   verdict-only o fits (bad-line f h [] last m′ [] a (inr e) never g) =
       g
       ∙ sym (by-part f h
-      (sym (part-only 0 Start image text (partOf 0 0 last, m′) fits (all [] last m′ a (sym (counted 0 0 last m′))))))
+      (sym (part-only 0 Start image text (partOf notRefused 0 last, m′) fits (all [] last m′ a (sym (counted 0 0 last m′))))))
   verdict-only o fits (bad-line f h (s ∷ l) last m′ [] a (inr e) never g) = let z : suc (length l) ≡ 0 = ap length e in absurd (omega arith)
   verdict-only o fits (bad-line f h l last m′ (c ∷ rest) a some never g) =
       g
       ∙ sym (by-part f h
-      (sym (part-only 0 Start image text (partOf 11 (length l) last, m′) fits
-      (malformed l last m′ (c ∷ rest) a (omega arith) never (sym (counted 11 (length l) last m′))))))
+      (sym (part-only 0 Start image text (partOf malformedEntry (length l) last, m′) fits
+      (malformed l last m′ (c ∷ rest) a (omega arith) never (sym (counted malformedEntry (length l) last m′))))))
   verdict-only o fits (bad-state f h l last m′ t rest a spelled never g) =
       g
       ∙ sym (by-part f h
-      (sym (part-only 0 Start image text (partOf 12 (length l) last, m′) fits
-      (astray l last m′ t rest a spelled never (sym (counted 12 (length l) last m′))))))
+      (sym (part-only 0 Start image text (partOf strayEntry (length l) last, m′) fits
+      (astray l last m′ t rest a spelled never (sym (counted strayEntry (length l) last m′))))))
 
   -- ---- acceptance
 
   module _ (full : length image ≡ fullMemory) (full-copy : length copy ≡ fullMemory) (fits : length text ≤ nowhere) where
-    other : {o : Checked × List ℕ} {answer line : ℕ} {m′ : List ℕ} → 0 < answer → o ≡ (checkedOf answer line, m′) → o .0 .answer ≡ 0 → ⊥
+    other : {o : Checked × List ℕ} {answer line : ℕ} {m′ : List ℕ} → 0 < answer → o ≡ (checkedOf answer line, m′) → o .0 .answer ≡ notRefused → ⊥
     other some g z = omega (arith, sym (ap (λ (w : Checked × List ℕ). w .0 .answer) g) ∙ z)
 
-    from-verdict : (o : Checked × List ℕ) → Verdict image text copy o → o .0 .answer ≡ 0 → (m′ : List ℕ) × Log image text m′
+    from-verdict : (o : Checked × List ℕ) → Verdict image text copy o → o .0 .answer ≡ notRefused → (m′ : List ℕ) × Log image text m′
     from-verdict o (not-full never g) z = absurd (never (full, full-copy))
     from-verdict o (accepted f h m′ log g) z = (m′, log)
     from-verdict o (bad-line f h l last m′ rest a some never g) z = absurd (other (omega arith) g z)
     from-verdict o (bad-state f h l last m′ t rest a spelled never g) z = absurd (other (omega arith) g z)
 
     -- Accepted exactly when there is at least one entry, and each later entry is the state after one step from the entry before.
-    pub accepted-exactly : (checkedTrace image text copy .0 .answer ≡ 0) ↔ ((m′ : List ℕ) × Log image text m′)
+    pub accepted-exactly : (checkedTrace image text copy .0 .answer ≡ notRefused) ↔ ((m′ : List ℕ) × Log image text m′)
     accepted-exactly = (
       (λ z. from-verdict (checkedTrace image text copy) (verdict-of fits) z),
       (λ g. ap (λ (o : Checked × List ℕ). o .0 .answer) (log-accepted full full-copy (g .0) (g .1))),

@@ -25,7 +25,7 @@ use Rattle.trace_line.specs.declared.Spelled.{Spelled}
 use Rattle.trace_line.specs.declared.Line.{Line}
 use Rattle.trace_line.specs.declared.Line.the-variants.{State, Malformed}
 use Rattle.trace_line.specs.Fields.{fieldsOf, stateOf, spelledBy, lineOf}
-use Rattle.trace_line.specs.Lines.{Spellable, lineText}
+use Rattle.trace_line.specs.Lines.{Spellable, lineText, longestLine}
 use Rattle.trace_line.specs.Lemmas.Standing.{Stands, stands-first, stands-second, stands-then, mark-there, mark-read, somewhere, WordRead, word-there, word-read, FieldRead, field-there, field-read}
 use Rattle.trace_line.specs.Lemmas.Counting.{NumberRead, cycles-there, cycles-read}
 
@@ -183,8 +183,7 @@ pub line-length : (s : Machine) → length (lineText s) ≡ length (decimal (s .
 unfolding fieldsFor
 line-length s = ap length (line-fields s 0) ∙ length-append (decimal (s .cycles)) (laterFields (fieldsFor s 0))
 
--- a line has at most 41 characters
-pub line-short : (s : Machine) → s .cycles < 2 ^ 64 → length (lineText s) ≤ 41
+pub line-short : (s : Machine) → s .cycles < 2 ^ 64 → length (lineText s) ≤ longestLine
 line-short s h = omega (arith, line-length s, decimal-length 19 (s .cycles) (omega arith))
 
 -- fields with the status of PHP are those of their machine

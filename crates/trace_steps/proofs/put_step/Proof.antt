@@ -9,14 +9,14 @@ use lib.ListN.{length, take}
 use lib.Seq.{length-take-le}
 use Rattle.manual.specs.Lemmas.StepLaws.{step-whole}
 use Rattle.text_writing.specs.Lemmas.Texts.{nothing, read-back}
-use Rattle.listing.specs.Lines.{instructionAt}
+use Rattle.listing.specs.Lines.{instructionAt, longestInstruction}
 use Rattle.listing.specs.Lemmas.Lengths.{instruction-length}
 use Rattle.trace_steps.specs.Lemmas.Traces.{not-back, shown-made, shown-refused}
 use Rattle.trace_steps.proofs.put_step.Statement.{statement}
 use Rattle.trace_steps.proofs.put_step.Tie as tie
 
 short : (c : tie.After-put-instruction)
-    → length (instructionAt (now (c .before .before .before .before .before .args .memory)) (c .before .before .before .before .before .args .machine .registers .counter)) ≤ 25
+    → length (instructionAt (now (c .before .before .before .before .before .args .memory)) (c .before .before .before .before .before .args .machine .registers .counter)) ≤ longestInstruction
 short c = instruction-length (now (c .before .before .before .before .before .args .memory)) (c .before .before .before .before .before .args .machine .registers .counter)
 
 -- what stands in that buffer

@@ -6,6 +6,7 @@ use mathlib.Core.List.{List, [], _++_, append-assoc}
 use native.Mathlib.Nat.{zero-add, suc-add}
 use native.Mathlib.Omega.{arith}
 use lib.ListN.{length}
+use Rattle.laws.specs.Answers.{notRefused}
 use Rattle.manual.specs.declared.Machine.{Machine}
 use Rattle.manual.specs.declared.Stepped.{Stepped}
 use Rattle.manual.specs.declared.Ended.{Ended}
@@ -52,11 +53,11 @@ refused-line n s m q m′ g h = rw (g, h)
 module _ (image copy : List ℕ) (s : Machine) (full : length image ≡ fullMemory) (full-copy : length copy ≡ fullMemory) (bytes : Bytes image) (h : Spellable s) where
   -- The line of a state and the trace of a run from it are accepted, however many steps were asked for and however the run ends.
   pub trace-accepted : (n : ℕ) {q : Ended} {m′ : List ℕ} → Gives (longRun (length image) n idle s) image q m′
-      → checkedTrace image (lineText s ++ trace States n s image) copy ≡ (checkedOf 0 0, m′)
+      → checkedTrace image (lineText s ++ trace States n s image) copy ≡ (checkedOf notRefused 0, m′)
   trace-accepted n {q} {m′} g = by-end (run-ends n idle s image (rw (long-whole (length image) n idle s full) at g))
     where
       of-lines : (k : ℕ) (s′ : Machine) (m″ : List ℕ) → Leads k idle s image s′ m″ → trace States n s image ≡ logText (laterStates k s image)
-          → checkedTrace image (lineText s ++ trace States n s image) copy ≡ (checkedOf 0 0, m″)
+          → checkedTrace image (lineText s ++ trace States n s image) copy ≡ (checkedOf notRefused 0, m″)
       of-lines k s′ m″ led e =
           ap (λ (t : List ℕ). checkedTrace image (lineText s ++ t) copy) e ∙ honest-accepted image copy s full full-copy bytes h k s′ m″ led
 
@@ -68,7 +69,7 @@ module _ (image copy : List ℕ) (s : Machine) (full : length image ≡ fullMemo
           ∙ ap (λ (j : ℕ). fullTrace States j s image) count
           ∙ made-lines k (suc (n - suc k)) s image s′ m″ led (refused-line (n - suc k) s′ m″ (refused r s′) m″ step e)
 
-      by-end : {p : Ended} {m″ : List ℕ} → Ends n idle s image p m″ → checkedTrace image (lineText s ++ trace States n s image) copy ≡ (checkedOf 0 0, m″)
+      by-end : {p : Ended} {m″ : List ℕ} → Ends n idle s image p m″ → checkedTrace image (lineText s ++ trace States n s image) copy ≡ (checkedOf notRefused 0, m″)
       by-end (all-made {s′} {m′ = m″} led) =
           let count : n ≡ n + 0 = omega arith in
           of-lines n s′ m″ led

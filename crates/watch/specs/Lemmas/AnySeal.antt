@@ -2,7 +2,7 @@
 use Prim.Native.Nat.{ℕ, zero, suc, _+_, _<_}
 use mathlib.Core.Path.{_≡_, refl, ap, sym, _∙_, subst}
 use mathlib.Core.Logic.{inl, inr, ⊎-elim}
-use mathlib.Core.Bool.{Bool, true, false, cond}
+use mathlib.Core.Bool.{Bool, true, false, cond, true≢false}
 use mathlib.Core.List.{List, [], _∷_, _++_}
 use native.Mathlib.Omega.{arith}
 use lib.ListN.{getD, set, length, length-set}
@@ -28,10 +28,6 @@ use Rattle.watch.specs.Guarded.{firstSealed, ran, halted, unless, guarde
 abbrev pub Under : (ℕ → Bool) → ℕ → Type 0
 Under seal a = seal a ≡ true
 
--- true is not false
-pub never : {A : Type 0} → true ≡ false → A
-never e = let z : _≡_ {A = ℕ} 0 1 = cc in absurd (omega arith)
-
 module _ (seal : ℕ → Bool) (lines : Lines) where
   -- ---- lists
 
@@ -44,7 +40,7 @@ module _ (seal : ℕ → Bool) (lines : Lines) where
   nothing-sealed [] e = λ a i s. i
   nothing-sealed (b ∷ l) e =
       let p = split (seal b) b (firstSealed seal l) e in
-      λ a i s. ⊎-elim (λ (f : a ≡ b). never (sym s ∙ ap seal f ∙ p .0)) (λ (j : a ∈ l). nothing-sealed l (p .1) a j s) i
+      λ a i s. ⊎-elim (λ (f : a ≡ b). absurd (true≢false (sym s ∙ ap seal f ∙ p .0))) (λ (j : a ∈ l). nothing-sealed l (p .1) a j s) i
 
   both-unsealed : (l r : List ℕ) → Unsealed (Under seal) l → Unsealed (Under seal) r → Unsealed (Under seal) (l ++ r)
   both-unsealed [] r u v = v
@@ -148,7 +144,7 @@ module _ (seal : ℕ → Bool) (lines : Lines) where
       chosen (seal q) q _ _
       (λ e.
       same-first (k (getD m₁ q 0)) m₁ m₂ l h
-      ∙ ap (λ (b : ℕ). firstSealed seal (reads (k b) m₂)) (h q (λ s. never (sym s ∙ e))))
+      ∙ ap (λ (b : ℕ). firstSealed seal (reads (k b) m₂)) (h q (λ s. absurd (true≢false (sym s ∙ e)))))
   same-first (write q b k) m₁ m₂ l h =
       same-first k (set m₁ q b) (set m₂ q b) (simp length-set l) (λ a f. agree-set m₁ m₂ q b a l (h a f))
 

@@ -1,7 +1,7 @@
 -- Laws that the code's proofs cite.
 use Prim.Native.Nat.{ℕ, zero, suc, min, _+_, _-_, _≤_, _<_}
 use mathlib.Core.Path.{_≡_, refl, ap, sym, _∙_, subst, fun-ext}
-use mathlib.Core.Bool.{Bool, true, false, not, cond, _&&_, _||_}
+use mathlib.Core.Bool.{Bool, true, false, not, cond, _&&_, _||_, true≢false}
 use mathlib.Core.Logic.{inl, inr}
 use mathlib.Core.List.{List, [], _∷_}
 use native.Mathlib.Numerals.{add-one}
@@ -36,7 +36,6 @@ use Rattle.watch.specs.declared.Halt.{Halt}
 use Rattle.watch.specs.declared.seals.Seen.{Seen}
 use Rattle.watch.specs.declared.seals.Seen.the-variants.{Nothing, At}
 use Rattle.watch.specs.Guarded.{inPages, inStretch, inEither, firstSealed, ran, halted, unless, guardedFull, longGuarded, guarded}
-use Rattle.watch.specs.Lemmas.AnySeal.{never}
 
 -- ---- what is sealed
 
@@ -227,7 +226,7 @@ module _ (seal : ℕ → Bool) (lines : Lines) where
       → Counted i (then j k s m q e x t)
   then-counted j k i s m q e (At a) t is h = tt
   then-counted j k i s m q e Nothing true is h = h
-  then-counted j k i s m q e Nothing false is h = λ f. never (sym f ∙ is)
+  then-counted j k i s m q e Nothing false is h = λ f. absurd (true≢false (sym f ∙ is))
 
   pub guarded-counted : (j k : ℕ) (s : Machine) (m : List ℕ) → Counted (k + j) (guardedFull seal j k lines s m)
   unfolding guardedFull

@@ -1,7 +1,7 @@
 -- The extract of an image beside the run of the image itself: what the theorems of Oath.antt stand on.
 use Prim.Native.Nat.{ℕ}
 use mathlib.Core.Path.{_≡_, refl, ap, sym, _∙_, subst}
-use mathlib.Core.Bool.{Bool, true, false, cond}
+use mathlib.Core.Bool.{Bool, true, false, cond, true≢false}
 use mathlib.Core.Logic.{inl, inr, ⊎-elim}
 use mathlib.Core.List.{List, [], _∷_}
 use native.Mathlib.Omega.{arith}
@@ -9,6 +9,7 @@ use borrow.Author.Tests.{eq-eqb}
 use lib.Dec.{eqb}
 use lib.ListN.{length, getD}
 use lib.Seq.{ext-getD}
+use Rattle.laws.specs.Answers.{notRefused, halted}
 use Rattle.manual.specs.declared.Machine.{Machine}
 use Rattle.manual.specs.declared.Ended.{Ended}
 use Rattle.manual.specs.declared.Reason.{Reason}
@@ -32,7 +33,7 @@ use Rattle.watch.specs.declared.Halt.{Halt}
 use Rattle.watch.specs.declared.seals.Seen.{Seen}
 use Rattle.watch.specs.declared.seals.Seen.the-variants.{Nothing, At}
 use Rattle.watch.specs.Guarded.{inStretch, firstSealed, longGuarded}
-use Rattle.watch.specs.Lemmas.AnySeal.{Under, never}
+use Rattle.watch.specs.Lemmas.AnySeal.{Under}
 use Rattle.watch.specs.Theorems.Sealed.{Stopped, long-ran-right, long-halted-right, code-long-apart}
 use Rattle.watch_extract.specs.Extract.{blanked, extract}
 use Rattle.watch_extract.specs.Words.{sealedStatus}
@@ -69,7 +70,7 @@ pub status-0 : (goal : Goal) (w : Watched) → sealedStatus goal w ≡ 0 → (q 
 status-0 goal (Watched.Ran q) h = (q, refl, only-where-reached goal q h)
 status-0 goal (Watched.Halted x) h = absurd (omega arith)
 
-no-end-13 : (t u : Bool) (r : Reason) → cond t 0 (cond u 20 (number r)) ≡ 13 → ⊥
+no-end-13 : (t u : Bool) (r : Reason) → cond t 0 (cond u 20 (number r)) ≡ halted → ⊥
 no-end-13 true u r h = omega arith
 no-end-13 false true r h = omega arith
 no-end-13 false false Made h = omega arith
@@ -79,9 +80,9 @@ no-end-13 false false NotAnOpcode h = omega arith
 no-end-13 false false BoundTooHigh h = omega arith
 
 -- 13: it was halted
-pub status-13 : (goal : Goal) (w : Watched) → sealedStatus goal w ≡ 13 → (h : Halt) × (w ≡ Watched.Halted h)
+pub status-13 : (goal : Goal) (w : Watched) → sealedStatus goal w ≡ halted → (h : Halt) × (w ≡ Watched.Halted h)
 unfolding endStatus
-status-13 goal (Watched.Ran q) h = absurd (no-end-13 (reached goal q) (eqb (number (q .reason)) 0) (q .reason) h)
+status-13 goal (Watched.Ran q) h = absurd (no-end-13 (reached goal q) (eqb (number (q .reason)) notRefused) (q .reason) h)
 status-13 goal (Watched.Halted x) h = (x, refl)
 
 -- ---- the blanked image
@@ -99,7 +100,7 @@ module _ (first last : ℕ) where
     where
       at : (k : ℕ) (t : Bool) → seal k ≡ t → cond t 0 (getD m₁ k 0) ≡ cond t 0 (getD m₂ k 0)
       at k true e = refl
-      at k false e = d .same k (λ h. never (sym h ∙ e))
+      at k false e = d .same k (λ h. absurd (true≢false (sym h ∙ e)))
 
   -- so two images that differ only in sealed bytes have one extract
   pub one-extract : (steps : ℕ) (m₁ m₂ : List ℕ) → Differ (Under seal) m₁ m₂ → extract first last steps m₁ ≡ extract first last steps m₂
@@ -157,7 +158,7 @@ module _ (first last : ℕ) where
     pub unread-from : Unsealed (Under seal) (listedLongRun (length m) steps idle (imageStart m) m) → Unsealed (Under seal) (reads (longImageRun steps (length m)) m)
     unread-from u =
         rw (reads-from-start steps m full, long-run-reads (length m) steps idle (imageStart m) m)
-        (λ a. ⊎-elim (λ (e : a ≡ 0xFFFC) s. never (sym s ∙ ap seal e ∙ lo)) (⊎-elim (λ (e : a ≡ 0xFFFD) s. never (sym s ∙ ap seal e ∙ hi)) (u a)))
+        (λ a. ⊎-elim (λ (e : a ≡ 0xFFFC) s. absurd (true≢false (sym s ∙ ap seal e ∙ lo))) (⊎-elim (λ (e : a ≡ 0xFFFD) s. absurd (true≢false (sym s ∙ ap seal e ∙ hi))) (u a)))
 
     pub not-halted : (q : Ended) {x : List ℕ} → (Watched.Ran q, x) ≡ extract first last steps m → NotHalted q x
     not-halted q {x} g =

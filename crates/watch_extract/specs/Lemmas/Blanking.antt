@@ -1,7 +1,7 @@
 -- Laws that the code's proofs cite.
 use Prim.Native.Nat.{ℕ, zero, suc, _+_, _≤_, _<_, _^_}
 use mathlib.Core.Path.{_≡_, refl, ap, sym, _∙_}
-use mathlib.Core.Bool.{Bool, true, false, cond}
+use mathlib.Core.Bool.{Bool, true, false, cond, true≢false}
 use mathlib.Core.List.{List, [], _∷_, _++_}
 use native.Mathlib.Nat.{add-zero}
 use native.Mathlib.Decide.{decLt}
@@ -10,6 +10,7 @@ use borrow.Author.Tests.{eq-eqb, ne-eqb, le-leb, lt-leb}
 use lib.Dec.{lit≤}
 use lib.ListN.{length, length-append, getD, set}
 use lib.Seq.{ext-getD, getD-set-same, getD-set-other}
+use Rattle.laws.specs.Answers.{halted}
 use Rattle.manual.specs.declared.Machine.{Machine}
 use Rattle.manual.specs.declared.Reason.the-variants.{MemoryNotFull}
 use Rattle.manual.specs.Interrupts.{idle}
@@ -22,9 +23,8 @@ use Rattle.watch.specs.declared.Halt.{Halt}
 use Rattle.watch.specs.declared.Watched.{Watched}
 use Rattle.watch.specs.Guarded.{inStretch, ran, guardedFull, longGuarded}
 use Rattle.watch.specs.Lemmas.Watching.{long-whole}
-use Rattle.watch.specs.Lemmas.AnySeal.{never}
 use Rattle.watch_extract.specs.Extract.{blankedFrom, blanked, extract}
-use Rattle.watch_extract.specs.Words.{haltLine, unread, would}
+use Rattle.watch_extract.specs.Words.{haltLine, unread, would, longestSealedLine, longestOath}
 
 -- ---- blanking
 
@@ -72,7 +72,7 @@ module _ (first last : ℕ) where
   pub one-more : (i : ℕ) (m e : List ℕ) → first ≤ i → i ≤ last → i < length e → Blanks i m e → Blanks (i + 1) m (set e i 0)
   one-more i m e l h f b = record {
     kept = λ k g.
-        getD-set-other e i k 0 0 (λ (z : k ≡ i). never (sym (in-there i l h) ∙ ap (inStretch first last) (sym z) ∙ g)) ∙ b .kept k g;
+        getD-set-other e i k 0 0 (λ (z : k ≡ i). absurd (true≢false (sym (in-there i l h) ∙ ap (inStretch first last) (sym z) ∙ g))) ∙ b .kept k g;
     zeros = λ k lo below hi. zeros-at k lo below hi (decLt k i);
   }
     where
@@ -115,14 +115,14 @@ module _ (first last steps : ℕ) (m : List ℕ) where
 -- ---- the line
 
 -- a count of 64 bits has twenty digits
-pub halt-fits : (h : Halt) → h .steps < 2 ^ 64 → h .machine .cycles < 2 ^ 64 → length (haltLine h) ≤ 72
+pub halt-fits : (h : Halt) → h .steps < 2 ^ 64 → h .machine .cycles < 2 ^ 64 → length (haltLine h) ≤ longestSealedLine
 unfolding machineFields
 halt-fits h s k =
-    simp length-append (omega (arith, decimal-length 1 13 (omega arith), decimal-length 19 (h .steps) (omega arith), decimal-length 19 (h .machine .cycles) (omega arith)))
+    simp length-append (omega (arith, decimal-length 1 halted (omega arith), decimal-length 19 (h .steps) (omega arith), decimal-length 19 (h .machine .cycles) (omega arith)))
 
 -- ---- the sentences
 
-pub unread-fits : (first last steps : ℕ) → steps < 2 ^ 64 → length (unread first last steps) ≤ 96
+pub unread-fits : (first last steps : ℕ) → steps < 2 ^ 64 → length (unread first last steps) ≤ longestOath
 unread-fits first last steps h = simp length-append (omega (arith, decimal-length 19 steps (omega arith)))
 
 -- the number after the last count of 64 bits, its last digit by itself
@@ -133,5 +133,5 @@ last-digit = decimal-more 18446744073709551616 (lit≤ tt)
 pub after-last : (count : ℕ) → count ≡ 18446744073709551615 → decimal (count + 1) ≡ decimal 1844674407370955161 ++ 54 ∷ []
 after-last count e = ap (λ (n : ℕ). decimal (n + 1)) e ∙ last-digit
 
-pub would-fits : (steps place : ℕ) → steps < 2 ^ 64 → length (would steps place) ≤ 96
+pub would-fits : (steps place : ℕ) → steps < 2 ^ 64 → length (would steps place) ≤ longestOath
 would-fits steps place h = simp length-append (omega (arith, decimal-length 19 (steps + 1) (omega arith)))

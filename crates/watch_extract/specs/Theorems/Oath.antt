@@ -6,6 +6,7 @@ use mathlib.Core.Path.{_≡_, ap, sym, _∙_, subst}
 use mathlib.Core.Bool.{true, false}
 use mathlib.Core.List.{List}
 use lib.ListN.{length, getD}
+use Rattle.laws.specs.Answers.{halted}
 use Rattle.manual.specs.declared.Ended.{Ended}
 use Rattle.manual.specs.declared.Reason.the-variants.{Made}
 use Rattle.manual.specs.Micro.{exec, reads, stores, Gives}
@@ -89,7 +90,7 @@ module _ (first last : ℕ) (goal : Goal) (steps : ℕ) where
           }
 
     -- 4. Status 13: the run read no sealed byte in the steps that it made, and the next step would read the one that is named.
-    pub would-read : sealedStatus goal w ≡ 13 → (h : Halt) × (w ≡ Watched.Halted h) × WouldRead m h
+    pub would-read : sealedStatus goal w ≡ halted → (h : Halt) × (w ≡ Watched.Halted h) × WouldRead m h
     would-read z =
         let (h, is) = status-13 goal w z in
         let so = halted-there first last steps m full lo hi h (subst (λ (v : Watched). (v, x) ≡ extract first last steps m) is extracted) in

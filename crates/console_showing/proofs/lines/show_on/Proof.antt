@@ -8,8 +8,8 @@ use Rattle.manual.specs.Micro.{exec}
 use Rattle.manual.specs.Interrupts.{idle}
 use Rattle.manual.specs.Stepping.{longRun}
 use Rattle.manual.specs.Theorems.Lunch.{added}
-use Rattle.manual.specs.Lemmas.StepLaws.{was-made}
-use Rattle.manual_parts.specs.Lemmas.Parts.{Whole, was-stopped, long-steps, begun, turn, halt}
+use Rattle.manual.specs.Lemmas.StepLaws.{was-made, was-refused}
+use Rattle.manual_parts.specs.Lemmas.Parts.{Whole, long-steps, begun, turn, halt}
 use Rattle.console.specs.Failing.{FailureStays}
 use Rattle.console.specs.Theorems.Failing.{stays-on}
 use borrow.Author.Needs.{needs}
@@ -42,7 +42,7 @@ returns-2 c =
     let c₈ = c₃ .before .before .before .before .before in
     let c₁₂ = c₈ .before .before .before .before in (
       (λ z.
-          halt _ _ _ _ _ _ (c₁₂ .loop .inv .2) (omega arith) (c₈ .show-part .ensures .0) (was-stopped _ (sym (c₃ .is-made .ensures) ∙ not-true _ (c₂ .if2 .taken)))
+          halt _ _ _ _ _ _ (c₁₂ .loop .inv .2) (omega arith) (c₈ .show-part .ensures .0) (was-refused _ (sym (c₃ .is-made .ensures) ∙ not-true _ (c₂ .if2 .taken)))
           ∙ rw (c .new .ensures)),
       stays-on (c₁₂ .loop .inv .3) (c₈ .show-part .ensures .1),
     )

@@ -1,6 +1,6 @@
 -- Each arm is its class; the others store, and are not asked for.
 use mathlib.Core.Path.{_≡_, refl, sym, _∙_}
-use mathlib.Core.Bool.{true, false}
+use mathlib.Core.Bool.{true, false, true≢false}
 use mathlib.Core.List.{[], _∷_}
 use borrow.Author.Tests.{eqb-true, not-false}
 use denote.Enum.Declared.{tagOf}
@@ -11,7 +11,6 @@ use Rattle.instruction.specs.declared.AddressingMode.{AddressingMode}
 use Rattle.instruction.proofs.Instruction.{the-type}
 use Rattle.opcode_numbers.specs.Inner.Storing.{storesIn}
 use Rattle.manual.specs.Lemmas.Programs.{at-once}
-use Rattle.opcode_effects.specs.Theorems.Rows.{never-both}
 use borrow.Author.Needs.{needs}
 use Rattle.opcode_effects.proofs.keeping.execute_keeping.Statement.{statement}
 use Rattle.opcode_effects.proofs.keeping.execute_keeping.Tie as tie
@@ -65,7 +64,7 @@ returns-9 c = rw (c .before .enum-told5 .given .1) (c .return-from-subroutine .e
 returns-10 : tie.Need-returns-10
 returns-10 c =
     let s = c .before .before .before in
-    never-both (sym (the-others (s .args .instruction) (s .args .mode) (c .before .match .keys10)) ∙ s .pre .1)
+    absurd (true≢false (sym (the-others (s .args .instruction) (s .args .mode) (c .before .match .keys10)) ∙ s .pre .1))
 
 pub execute-keeping-spec : {M : Type 1} → statement M
 execute-keeping-spec =

@@ -1,6 +1,6 @@
 -- Each arm is its class; the others store nothing, and are not asked for.
 use mathlib.Core.Path.{_≡_, refl, sym, _∙_}
-use mathlib.Core.Bool.{true, false}
+use mathlib.Core.Bool.{true, false, true≢false}
 use mathlib.Core.List.{[], _∷_}
 use borrow.Author.Tests.{eqb-false, not-true}
 use denote.Enum.Declared.{tagOf}
@@ -10,7 +10,6 @@ use Rattle.instruction.specs.declared.Instruction.the-variants.{Read, Store, Mo
 use Rattle.instruction.specs.declared.AddressingMode.{AddressingMode}
 use Rattle.instruction.proofs.Instruction.{the-type}
 use Rattle.opcode_numbers.specs.Inner.Storing.{storesIn}
-use Rattle.opcode_effects.specs.Theorems.Rows.{never-both}
 use borrow.Author.Needs.{needs}
 use Rattle.opcode_effects.proofs.storing.execute_storing.Statement.{statement}
 use Rattle.opcode_effects.proofs.storing.execute_storing.Tie as tie
@@ -57,7 +56,7 @@ returns-6 c = rw (c .before .before .before .before .enum-told4 .given .1) (c .b
 returns-7 : tie.Need-returns-7
 returns-7 c =
     let s = c .before .before .before in
-    never-both (sym (s .pre .1) ∙ the-others (s .args .instruction) (s .args .mode) (c .before .match .keys7))
+    absurd (true≢false (sym (s .pre .1) ∙ the-others (s .args .instruction) (s .args .mode) (c .before .match .keys7)))
 
 pub execute-storing-spec : {M : Type 1} → statement M
 execute-storing-spec =

@@ -8,9 +8,9 @@ use borrow.Author.Tests.{not-true, not-false}
 use Rattle.manual.specs.Micro.{exec}
 use Rattle.manual.specs.Interrupts.{idle}
 use Rattle.manual.specs.Stepping.{longRun}
-use Rattle.manual.specs.Lemmas.StepLaws.{was-made}
+use Rattle.manual.specs.Lemmas.StepLaws.{was-made, was-refused}
 use Rattle.manual.specs.Theorems.Lunch.{added}
-use Rattle.manual_parts.specs.Lemmas.Parts.{Whole, was-stopped, long-steps, begun, turn, halt}
+use Rattle.manual_parts.specs.Lemmas.Parts.{Whole, long-steps, begun, turn, halt}
 use Rattle.program_go.proofs.running.run_on.Statement.{statement}
 use Rattle.program_go.proofs.running.run_on.Tie as tie
 
@@ -34,7 +34,7 @@ returns c =
     let c₂ = c .before .before in
     let c₆ = c₂ .before .before .before .before in
     let at = c₆ .before .before .before .before in
-    halt _ _ _ _ _ _ (at .loop .inv .2) (omega arith) (rw (c₆ .before .before .idle .ensures) at (c₆ .long-run .ensures)) (was-stopped _ (sym (c₂ .before .is-made .ensures) ∙ not-true _ (c₂ .if1 .taken)))
+    halt _ _ _ _ _ _ (at .loop .inv .2) (omega arith) (rw (c₆ .before .before .idle .ensures) at (c₆ .long-run .ensures)) (was-refused _ (sym (c₂ .before .is-made .ensures) ∙ not-true _ (c₂ .if1 .taken)))
     ∙ rw (c .new .ensures)
 
 loop-again : tie.Need-loop-again Inv-loop μ-loop

@@ -6,8 +6,8 @@ use denote.Ref.{now}
 use lib.ListN.{length, drop, length-drop, drop-of-length-le}
 use lib.Seq.{take-all}
 use borrow.Author.Needs.{needs}
-use Rattle.trace_line.proofs.rest.Statement.{statement}
-use Rattle.trace_line.proofs.rest.Tie as tie
+use Rattle.text_reading.proofs.rest.Statement.{statement}
+use Rattle.text_reading.proofs.rest.Tie as tie
 
 returns : tie.Need-returns
 returns c =
