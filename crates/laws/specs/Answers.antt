@@ -1,4 +1,4 @@
--- The answers by name: docs/RULES.md says when each is given. An exit status from 1 to 13 is one of them too.
+-- The answers by name: docs/RULES.md says when each is given. An exit status from 1 to 14 is one of them too.
 use Prim.Native.Nat.{ℕ}
 
 -- of every function: what was asked for is not refused; of a run: all its steps are made, or its cycles spent, and its program still runs
@@ -53,6 +53,14 @@ malformedEntry = 11
 abbrev pub strayEntry : ℕ
 strayEntry = 12
 
--- of a watched run: the next step would read a sealed byte
-abbrev pub halted : ℕ
-halted = 13
+-- of a guarded run: the next step would read a byte that is guarded against reads
+abbrev pub wouldRead : ℕ
+wouldRead = 13
+
+-- it would store to one that is guarded against stores
+abbrev pub wouldStore : ℕ
+wouldStore = 14
+
+-- of a run to an address: all its steps are made, and the counter is not at it
+abbrev pub notThere : ℕ
+notThere = 15

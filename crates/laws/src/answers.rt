@@ -1,5 +1,5 @@
 // The answers of all functions, by name: docs/RULES.md says when each is given. An exit status from 1 to 13 is one of them
-// too.
+// too; 14 and 15 are given to hosts alone.
 
 // Of every function: what was asked for is not refused. Of a run: all its steps are made, or its cycles spent, and its program
 // still runs.
@@ -36,5 +36,11 @@ pub const MALFORMED_ENTRY: u8 = 11;
 
 pub const STRAY_ENTRY: u8 = 12;
 
-// Of a watched run: the next step would read a sealed byte.
-pub const HALTED: u8 = 13;
+// Of a guarded run: the next step would read a byte that is guarded against reads; it would store to one that is guarded against
+// stores.
+pub const WOULD_READ: u8 = 13;
+
+pub const WOULD_STORE: u8 = 14;
+
+// Of a run to an address: all its steps are made, and the counter is not at it.
+pub const NOT_THERE: u8 = 15;

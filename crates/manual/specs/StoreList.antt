@@ -56,6 +56,8 @@ storedByDue (Through vector) r m = threePushed r
 storedByDue Quiet r m = storedByEntry (decoded (getD m (r .counter) 0)) r m
 
 -- a refused step stores nothing
+abbrev pub storedByStepFull : Lines → Machine → List ℕ → List ℕ
+storedByStepFull lines s m = cond (ltb highestCount (s .cycles)) [] (storedByDue (due lines s) (s .registers) m)
+
 abbrev pub storedByStep : ℕ → Lines → Machine → List ℕ → List ℕ
-storedByStep size lines s m =
-    cond (eqb size fullMemory) (cond (ltb highestCount (s .cycles)) [] (storedByDue (due lines s) (s .registers) m)) []
+storedByStep size lines s m = cond (eqb size fullMemory) (storedByStepFull lines s m) []

@@ -23,7 +23,7 @@ use Rattle.manual.specs.Lemmas.Programs.{exec-bind, then}
 use Rattle.manual.specs.Lemmas.StepLaws.{due-none, step-late, step-serves, step-undefined, step-defined}
 use Rattle.manual.specs.Theorems.Answers.{Way, late, serves, undefined, ready, way, not-quiet}
 use Rattle.manual.specs.Theorems.RunAnswers.{Leads, Ends, all-made, no-cycle-room, not-an-opcode, run-ends}
-use Rattle.manual.specs.Theorems.Serving.{led-level}
+use Rattle.manual.specs.Theorems.Serving.{high-and-low, led-level}
 use Rattle.manual.specs.Theorems.Lunch.{added, full-lunch, full-stopped}
 use Rattle.cpu.specs.declared.Travelled.{Travelled}
 use Rattle.cpu.specs.Inner.Travelling.{travelled, travelling}
@@ -66,10 +66,6 @@ turn-late n lines s m l h =
 -- nothing is due with IRQ high and a level of NMI that stays
 pub raised-quiet : (nmi : Bool) (r : Registers) (cycles : ℕ) → due (raised nmi) (machineOf r cycles nmi) ≡ Quiet
 raised-quiet nmi r cycles = due-none (raised nmi) (machineOf r cycles nmi) (high-and-low nmi) refl
-  where
-    high-and-low : (high : Bool) → (high && not high) ≡ false
-    high-and-low true = refl
-    high-and-low false = refl
 
 levelOf : Travelled × List ℕ → Bool
 levelOf w = w .0 .ended .machine .nmi

@@ -84,6 +84,11 @@ module _ (Sealed : ℕ → Type 0) where
             i;
       }
 
+-- if it reads nothing sealed, a program stores to the same addresses on both
+pub stores-alike : {A : Type 0} (Sealed : ℕ → Type 0) (p : Micro A) (m₁ m₂ : List ℕ) → Differ Sealed m₁ m₂ → Unsealed Sealed (reads p m₁)
+    → stores p m₁ ≡ stores p m₂
+stores-alike Sealed p m₁ m₂ d u = shared Sealed p m₁ m₂ (d .full₁ ∙ sym (d .full₂)) (d .same) u .same-stores
+
 -- demand 3 of any program, for whatever results meet its promise on the two memories
 pub sealed : {A : Type 0} (Sealed : ℕ → Type 0) (p : Micro A) (m₁ m₂ : List ℕ) {q₁ q₂ : A} {e₁ e₂ : List ℕ}
     → Differ Sealed m₁ m₂ → Unsealed Sealed (reads p m₁) → Gives p m₁ q₁ e₁ → Gives p m₂ q₂ e₂

@@ -62,7 +62,8 @@ pub recorded : (lines : Lines) (s : Machine) (m : List ℕ) {q : Stepped} {m′ 
 unfolding level counted
 recorded lines s m g h = sym (ap level g) ∙ by-way lines s m (way lines s m) (ap counted g ∙ h)
 
-high-and-low : (high : Bool) → (high && not high) ≡ false
+-- no level is high and low
+pub high-and-low : (high : Bool) → (high && not high) ≡ false
 high-and-low true = refl
 high-and-low false = refl
 

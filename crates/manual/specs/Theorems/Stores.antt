@@ -22,7 +22,7 @@ use Rattle.manual.specs.Interrupts.{due}
 use Rattle.manual.specs.Stepping.{fullMemory, highestCount, act, attend, stepFull, step}
 use Rattle.manual.specs.ReadList.{listed, listedDue}
 use Rattle.manual.specs.Lemmas.Programs.{alike, either}
-use Rattle.manual.specs.StoreList.{threePushed, storedTo, storedByEntry, storedByDue, storedByStep}
+use Rattle.manual.specs.StoreList.{threePushed, storedTo, storedByEntry, storedByDue, storedByStepFull, storedByStep}
 use Rattle.manual.specs.Theorems.Accesses.{orderOf, stores-first, suits, entry-suits, act-accesses, attend-accesses, stores-in-order}
 use Rattle.manual.specs.Theorems.FewReads.{Few}
 
@@ -47,12 +47,13 @@ attend-stores Quiet lines s m =
     act-stores (decoded opcode) lines s m (entry-suits opcode)
 
 -- A step stores to exactly these addresses, in this order.
+pub step-full-stores : (lines : Lines) (s : Machine) (m : List ℕ) → stores (stepFull lines s) m ≡ storedByStepFull lines s m
+unfolding accesses stepFull
+step-full-stores lines s m = alike (StoresTo m) (ltb highestCount (s .cycles)) _ _ _ _ refl (attend-stores (due lines s) lines s m)
+
 pub step-stores : (size : ℕ) (lines : Lines) (s : Machine) (m : List ℕ) → stores (step size lines s) m ≡ storedByStep size lines s m
-unfolding accesses step stepFull
-step-stores size lines s m =
-    alike (StoresTo m) (eqb size fullMemory) _ _ _ _
-    (alike (StoresTo m) (ltb highestCount (s .cycles)) _ _ _ _ refl (attend-stores (due lines s) lines s m))
-    refl
+unfolding accesses step
+step-stores size lines s m = alike (StoresTo m) (eqb size fullMemory) _ _ _ _ (step-full-stores lines s m) refl
 
 -- ---- at most three
 
