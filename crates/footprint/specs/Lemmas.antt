@@ -1,3 +1,4 @@
 pub mod Arms
-pub mod Ways
 pub mod Footprints
+pub mod LastRead
+pub mod Ways

@@ -14,21 +14,21 @@ use memory::join;
 use memory::read_address;
 
 // The place so many bytes after the opcode.
-pub(crate) fn operand(counter: u16, count: u16) -> Address
+pub fn operand(counter: u16, count: u16) -> Address
     ensures { λ r. ⌜ r .0 ≡ addressOf (counter + count) ⌝ }
 {
     Address(counter).plus(count)
 }
 
 // The byte so many places above the stack pointer, in its page.
-pub(crate) fn above(pointer: u8, count: u8) -> Address
+pub fn above(pointer: u8, count: u8) -> Address
     ensures { λ r. ⌜ r .0 ≡ joined 1 (lowByte (pointer + count)) ⌝ }
 {
     join(1, std::num::wrapping_add_u8(pointer, count))
 }
 
 // The place in the zero page that the first operand names.
-pub(crate) fn zero_page(counter: u16, memory: &[u8]) -> ZeroPage
+pub fn zero_page(counter: u16, memory: &[u8]) -> ZeroPage
     requires { ⌜ length (now memory) ≡ fullMemory ⌝ }
     ensures { λ r. ⌜ r .0 ≡ firstAt counter (now (memory .entry)) ⌝ }
 {
@@ -36,7 +36,7 @@ pub(crate) fn zero_page(counter: u16, memory: &[u8]) -> ZeroPage
 }
 
 // The same and an index.
-pub(crate) fn zero_page_plus(index: u8, counter: u16, memory: &[u8]) -> ZeroPage
+pub fn zero_page_plus(index: u8, counter: u16, memory: &[u8]) -> ZeroPage
     requires { ⌜ length (now memory) ≡ fullMemory ⌝ }
     ensures { λ r. ⌜ r .0 ≡ lowByte (firstAt counter (now (memory .entry)) + index) ⌝ }
 {
@@ -44,7 +44,7 @@ pub(crate) fn zero_page_plus(index: u8, counter: u16, memory: &[u8]) -> ZeroPage
 }
 
 // The address that the two operands name.
-pub(crate) fn absolute(counter: u16, memory: &[u8]) -> Address
+pub fn absolute(counter: u16, memory: &[u8]) -> Address
     requires { ⌜ length (now memory) ≡ fullMemory ⌝ }
     ensures { λ r. ⌜ r .0 ≡ absolute counter (now (memory .entry)) ⌝ }
 {
@@ -52,14 +52,14 @@ pub(crate) fn absolute(counter: u16, memory: &[u8]) -> Address
 }
 
 // An address and an index.
-pub(crate) fn indexed(base: Address, index: u8) -> Address
+pub fn indexed(base: Address, index: u8) -> Address
     ensures { λ r. ⌜ r .0 ≡ addressOf (base .0 + index) ⌝ }
 {
     base.plus(index as u16)
 }
 
 // The address that a pointer in the zero page holds.
-pub(crate) fn pointed(pointer: ZeroPage, memory: &[u8]) -> Address
+pub fn pointed(pointer: ZeroPage, memory: &[u8]) -> Address
     requires { ⌜ length (now memory) ≡ fullMemory ⌝ }
     ensures { λ r. ⌜ r .0 ≡ pointed (pointer .0) (now (memory .entry)) ⌝ }
 {

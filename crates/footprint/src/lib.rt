@@ -5,7 +5,7 @@ ghost use Prim.Native.Nat.{_+_, _<_};
 ghost use lib.ListN.{length};
 ghost use Rattle.manual.specs.Stepping.{fullMemory};
 ghost use Rattle.manual.specs.ReadList.{listedDue, listedStepFull, listedStep};
-ghost use Rattle.manual.specs.StoreList.{storedByDue, storedByStep};
+ghost use Rattle.manual.specs.StoreList.{storedByDue, storedByStepFull, storedByStep};
 ghost use Rattle.footprint.specs.Places.{footprintOf};
 use manual::Due;
 use manual::FULL_MEMORY;
@@ -22,14 +22,14 @@ use storing::stores_by;
 use ways::reading_way;
 use ways::storing_way;
 
-mod aims; // aims.rt: where the bytes after an opcode lead
+pub mod aims; // aims.rt: where the bytes after an opcode lead
 pub mod places; // places.rt: a few addresses in order
 mod reading; // reading.rt: what is read by a way
 mod storing; // storing.rt: what is stored to by a way
 mod ways; // ways.rt: the way of each opcode
 
 // What the byte at the counter reads, with itself: what a step reads if no line is due.
-pub fn reads_quiet(registers: Registers, memory: &[u8]) -> Footprint
+fn reads_quiet(registers: Registers, memory: &[u8]) -> Footprint
     requires { ⌜ length (now memory) ≡ fullMemory ⌝ }
     ensures { λ r. ⌜ r ≡ footprintOf (listedDue Due.Quiet registers (now (memory .entry))) ⌝ }
 {
@@ -47,7 +47,7 @@ fn stores_quiet(registers: Registers, memory: &[u8]) -> Footprint
 }
 
 // The two bytes of a vector, which a step that serves a line reads.
-pub fn reads_through(vector: u16) -> Footprint
+fn reads_through(vector: u16) -> Footprint
     requires { ⌜ vector + 1 < 65536 ⌝ }
     ensures { λ r. ⌜ r ≡ footprintOf (vector ∷ (vector + 1) ∷ []) ⌝ }
 {
@@ -78,13 +78,11 @@ pub fn reads_of(machine: Machine, lines: Lines, memory: &[u8]) -> Footprint
     reads_full(machine, lines, memory)
 }
 
-// The addresses that a step from here stores to, in order.
-pub fn stores_of(machine: Machine, lines: Lines, memory: &[u8]) -> Footprint
-    ensures { λ r. ⌜ r ≡ footprintOf (storedByStep (length (now (memory .entry))) lines machine (now (memory .entry))) ⌝ }
+// What a step on a full memory stores to.
+pub fn stores_full(machine: Machine, lines: Lines, memory: &[u8]) -> Footprint
+    requires { ⌜ length (now memory) ≡ fullMemory ⌝ }
+    ensures { λ r. ⌜ r ≡ footprintOf (storedByStepFull lines machine (now (memory .entry))) ⌝ }
 {
-    if memory.len() != FULL_MEMORY {
-        return Footprint::none();
-    }
     if HIGHEST_COUNT < machine.cycles {
         return Footprint::none();
     }
@@ -92,4 +90,14 @@ pub fn stores_of(machine: Machine, lines: Lines, memory: &[u8]) -> Footprint
         Due::Through(_) => pushes(machine.registers),
         Due::Quiet => stores_quiet(machine.registers, memory),
     }
+}
+
+// The addresses that a step from here stores to, in order.
+pub fn stores_of(machine: Machine, lines: Lines, memory: &[u8]) -> Footprint
+    ensures { λ r. ⌜ r ≡ footprintOf (storedByStep (length (now (memory .entry))) lines machine (now (memory .entry))) ⌝ }
+{
+    if memory.len() != FULL_MEMORY {
+        return Footprint::none();
+    }
+    stores_full(machine, lines, memory)
 }

@@ -92,7 +92,7 @@ fn to_jump_pointer(pointer: Address, counter: u16) -> Footprint
 }
 
 // What is read by a way that leads to a byte, the opcode first.
-fn reads_to_target(way: u8, registers: Registers, memory: &[u8]) -> Footprint
+pub(crate) fn reads_to_target(way: u8, registers: Registers, memory: &[u8]) -> Footprint
     requires { ⌜ (length (now memory) ≡ fullMemory) × (way < 9) ⌝ }
     ensures { λ r. ⌜ r ≡ footprintOf (registers .counter ∷ readBy way registers (now (memory .entry))) ⌝ }
 {

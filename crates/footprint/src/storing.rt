@@ -7,13 +7,10 @@ ghost use Rattle.manual.specs.StoreList.{threePushed};
 ghost use Rattle.footprint.specs.Places.{footprintOf};
 ghost use Rattle.footprint.specs.Inner.Ways.{storedBy};
 use crate::aims::above;
-use crate::aims::absolute;
-use crate::aims::indexed;
-use crate::aims::pointed;
-use crate::aims::zero_page;
-use crate::aims::zero_page_plus;
 use crate::places::Footprint;
+use crate::reading::reads_to_target;
 use crate::ways::*;
+use memory::Address;
 use memory::join;
 use registers::Registers;
 
@@ -25,29 +22,18 @@ pub(crate) fn pushes(registers: Registers) -> Footprint
     Footprint::three(join(1, stack.0), above(stack.0, 255), above(stack.0, 254))
 }
 
-// What is stored to by a way that leads to a byte.
+// What is stored to by a way that leads to a byte: the last of what is read by it.
 fn stores_to_target(way: u8, registers: Registers, memory: &[u8]) -> Footprint
     requires { ⌜ (length (now memory) ≡ fullMemory) × (way < 9) ⌝ }
     ensures { λ r. ⌜ r ≡ footprintOf (storedBy way registers (now (memory .entry))) ⌝ }
 {
-    let counter = registers.counter;
-    match way {
-        ZERO_PAGE => Footprint::one(zero_page(counter, memory).full()),
-        ZERO_PAGE_X => Footprint::one(zero_page_plus(registers.x, counter, memory).full()),
-        ZERO_PAGE_Y => Footprint::one(zero_page_plus(registers.y, counter, memory).full()),
-        ABSOLUTE => Footprint::one(absolute(counter, memory)),
-        ABSOLUTE_X => Footprint::one(indexed(absolute(counter, memory), registers.x)),
-        ABSOLUTE_Y => Footprint::one(indexed(absolute(counter, memory), registers.y)),
-        INDEXED_INDIRECT_X => Footprint::one(pointed(
-            zero_page_plus(registers.x, counter, memory),
-            memory,
-        )),
-        INDIRECT_INDEXED_Y => Footprint::one(indexed(
-            pointed(zero_page(counter, memory), memory),
-            registers.y,
-        )),
-        _ => Footprint::none(),
+    if way == NOTHING {
+        return Footprint::none();
     }
+    let read = reads_to_target(way, registers, memory);
+    let places = read.places;
+    let last = read.count - 1;
+    Footprint::one(Address(places[last]))
 }
 
 // What is stored to by a way.

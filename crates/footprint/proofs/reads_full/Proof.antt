@@ -11,7 +11,7 @@ use Rattle.footprint.proofs.reads_full.Tie as tie
 returns : tie.Need-returns
 returns c =
     let a = c .before .before .before .before .args in
-    c .none .ensures ∙ ap footprintOf (sym (late-list (a .lines) (a .machine) (now (a .memory)) (c .before .if1 .taken)))
+    c .none .ensures ∙ ap footprintOf (sym (late-list (a .machine) _ (c .before .if1 .taken)))
 
 reads-through-requires : tie.Need-reads-through-requires
 reads-through-requires c κs =

@@ -1,6 +1,5 @@
 -- The length is tested first.
 use mathlib.Core.Path.{ap, sym, _∙_}
-use denote.Ref.{now}
 use borrow.Author.Needs.{needs}
 use Rattle.footprint.specs.Places.{footprintOf}
 use Rattle.footprint.specs.Lemmas.Footprints.{short-list, whole-list}
@@ -8,14 +7,10 @@ use Rattle.footprint.proofs.reads_of.Statement.{statement}
 use Rattle.footprint.proofs.reads_of.Tie as tie
 
 returns : tie.Need-returns
-returns c =
-    let a = c .before .before .before .args in
-    c .none .ensures ∙ ap footprintOf (sym (short-list _ (a .lines) (a .machine) (now (a .memory)) (c .before .if1 .taken)))
+returns c = c .none .ensures ∙ ap footprintOf (sym (short-list _ _ (c .before .if1 .taken)))
 
 returns-2 : tie.Need-returns-2
-returns-2 c =
-    let a = c .before .before .before .args in
-    c .reads-full .ensures ∙ ap footprintOf (sym (whole-list _ (a .lines) (a .machine) (now (a .memory)) (c .before .if1 .left)))
+returns-2 c = c .reads-full .ensures ∙ ap footprintOf (sym (whole-list _ _ (c .before .if1 .left)))
 
 pub reads-of-spec : {M : Type 1} → statement M
 reads-of-spec = tie.close (tie.spec (search needs) returns (search needs) returns-2)

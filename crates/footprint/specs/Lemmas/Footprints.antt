@@ -1,8 +1,10 @@
 -- Laws that the code's proofs cite.
 use Prim.Native.Nat.{ℕ, _≤_, _<_}
 use mathlib.Core.Path.{_≡_, ap, _∙_}
+use mathlib.Core.Bool.{cond}
 use mathlib.Core.List.{List, [], _∷_}
 use borrow.Author.Tests.{lt-ltb, le-ltb, eq-eqb, ne-eqb}
+use lib.Dec.{eqb, ltb}
 use lib.ListN.{getD}
 use Rattle.registers.specs.declared.Registers.{Registers}
 use Rattle.manual.specs.declared.Lines.{Lines}
@@ -12,8 +14,8 @@ use Rattle.manual.specs.declared.Due.the-variants.{Quiet}
 use Rattle.instruction.specs.Opcodes.{decoded}
 use Rattle.manual.specs.Interrupts.{due}
 use Rattle.manual.specs.Stepping.{fullMemory, highestCount}
-use Rattle.manual.specs.ReadList.{listedEntry, listedDue, listedStepFull, listedStep}
-use Rattle.manual.specs.StoreList.{storedByEntry, storedByDue, storedByStep}
+use Rattle.manual.specs.ReadList.{listedEntry, listedDue, listedStepFull}
+use Rattle.manual.specs.StoreList.{storedByEntry, storedByDue, storedByStepFull}
 use Rattle.footprint.specs.Places.{footprintOf}
 use Rattle.footprint.specs.Inner.Ways.{Way, readBy, storedBy, ReadsBy, StoresBy}
 
@@ -30,25 +32,20 @@ module _ (r : Registers) (m : List ℕ) (opcode way : ℕ) (e : opcode ≡ getD 
 
 -- ---- the tests of a step in their order
 
-module _ (size : ℕ) (lines : Lines) (s : Machine) (m : List ℕ) where
-  pub short-list : (size ≡ fullMemory → ⊥) → listedStep size lines s m ≡ []
+-- of what it reads, and of what it stores to
+module _ (size : ℕ) (l : List ℕ) where
+  pub short-list : (size ≡ fullMemory → ⊥) → cond (eqb size fullMemory) l [] ≡ []
   short-list f = simp (ne-eqb _ _ f)
 
-  pub whole-list : size ≡ fullMemory → listedStep size lines s m ≡ listedStepFull lines s m
+  pub whole-list : size ≡ fullMemory → cond (eqb size fullMemory) l [] ≡ l
   whole-list e = simp (eq-eqb _ _ e)
 
-  pub short-stores : (size ≡ fullMemory → ⊥) → storedByStep size lines s m ≡ []
-  short-stores f = simp (ne-eqb _ _ f)
+pub late-list : (s : Machine) (l : List ℕ) → highestCount < s .cycles → cond (ltb highestCount (s .cycles)) [] l ≡ []
+late-list s l h = simp (lt-ltb _ _ h)
 
-  pub late-stores : size ≡ fullMemory → highestCount < s .cycles → storedByStep size lines s m ≡ []
-  late-stores e h = simp (eq-eqb _ _ e, lt-ltb _ _ h)
+module _ (lines : Lines) (s : Machine) (m : List ℕ) (d : Due) (h : s .cycles ≤ highestCount) (e : due lines s ≡ d) where
+  pub due-list : listedStepFull lines s m ≡ listedDue d (s .registers) m
+  due-list = rw (le-ltb _ _ h, e)
 
-  pub due-stores : (d : Due) → size ≡ fullMemory → s .cycles ≤ highestCount → due lines s ≡ d → storedByStep size lines s m ≡ storedByDue d (s .registers) m
-  due-stores d f h e = rw (eq-eqb _ _ f, le-ltb _ _ h, e)
-
-module _ (lines : Lines) (s : Machine) (m : List ℕ) where
-  pub late-list : highestCount < s .cycles → listedStepFull lines s m ≡ []
-  late-list h = simp (lt-ltb _ _ h)
-
-  pub due-list : (d : Due) → s .cycles ≤ highestCount → due lines s ≡ d → listedStepFull lines s m ≡ listedDue d (s .registers) m
-  due-list d h e = rw (le-ltb _ _ h, e)
+  pub due-stores : storedByStepFull lines s m ≡ storedByDue d (s .registers) m
+  due-stores = rw (le-ltb _ _ h, e)

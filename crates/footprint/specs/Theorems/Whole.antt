@@ -11,7 +11,7 @@ use Rattle.manual.specs.Stepping.{step}
 use Rattle.manual.specs.ReadList.{listedStepFull, listedStep}
 use Rattle.manual.specs.Theorems.Reads.{step-reads}
 use Rattle.manual.specs.Theorems.FewReads.{at-most-five-reads}
-use Rattle.manual.specs.StoreList.{storedByStep}
+use Rattle.manual.specs.StoreList.{storedByStepFull, storedByStep}
 use Rattle.manual.specs.Theorems.Stores.{step-stores, at-most-three-stores}
 use Rattle.footprint.specs.Places.{footprintOf, addresses}
 
@@ -28,6 +28,12 @@ all-kept (a ∷ b ∷ c ∷ d ∷ e ∷ f ∷ l) h = absurd (omega arith)
 -- as is what a step on a full memory reads
 pub full-kept : (lines : Lines) (s : Machine) (m : List ℕ) → addresses (footprintOf (listedStepFull lines s m)) ≡ listedStepFull lines s m
 full-kept lines s m = all-kept (listedStepFull lines s m) (rw (step-reads 65536 lines s m) at (at-most-five-reads 65536 lines s m))
+
+-- and what it stores to
+pub full-stores-kept : (lines : Lines) (s : Machine) (m : List ℕ) → addresses (footprintOf (storedByStepFull lines s m)) ≡ storedByStepFull lines s m
+full-stores-kept lines s m =
+    let few : length (storedByStepFull lines s m) ≤ 3 = rw (step-stores 65536 lines s m) at (at-most-three-stores 65536 lines s m) in
+    all-kept (storedByStepFull lines s m) (omega (arith, few))
 
 module _ (size : ℕ) (lines : Lines) (s : Machine) (m : List ℕ) where
   -- The footprint that `reads_of` promises names each address that the step reads, in order, and no other.
