@@ -1,0 +1,3 @@
+pub mod AnyGuard
+pub mod Blanking
+pub mod Guarding

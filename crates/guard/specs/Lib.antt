@@ -1,0 +1,4 @@
+pub mod Extract
+pub mod Guarded
+pub mod Lemmas
+pub mod Theorems

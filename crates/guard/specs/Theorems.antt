@@ -1,0 +1,2 @@
+pub mod Extracting
+pub mod Guarding

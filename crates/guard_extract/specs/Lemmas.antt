@@ -1,0 +1,3 @@
+pub mod Beside
+pub mod Lengths
+pub mod Stretches

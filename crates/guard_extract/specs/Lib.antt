@@ -1,0 +1,5 @@
+pub mod Extract
+pub mod Lemmas
+pub mod Stretches
+pub mod Theorems
+pub mod Words

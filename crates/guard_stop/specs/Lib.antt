@@ -1,0 +1,4 @@
+pub mod Inner
+pub mod Lemmas
+pub mod Stop
+pub mod Theorems

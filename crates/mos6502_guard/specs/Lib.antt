@@ -1,0 +1,4 @@
+pub mod Guarding
+pub mod Lemmas
+pub mod Stopping
+pub mod Theorems

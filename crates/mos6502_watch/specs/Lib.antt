@@ -1,3 +1,0 @@
-pub mod Watching
-pub mod Lemmas
-pub mod Theorems

@@ -1,3 +1,0 @@
-pub mod Guarded
-pub mod Lemmas
-pub mod Theorems

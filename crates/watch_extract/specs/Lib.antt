@@ -1,4 +1,0 @@
-pub mod Extract
-pub mod Words
-pub mod Lemmas
-pub mod Theorems
