@@ -23,8 +23,11 @@ enum mos6502_answer {
     /* of a recorded trace, at the first bad entry: malformed, or none; it does not follow from the entry before */
     MOS6502_MALFORMED_ENTRY = 11,
     MOS6502_STRAY_ENTRY = 12,
-    /* of a watched run: the next step would read a sealed byte */
-    MOS6502_HALTED = 13
+    /* of a guarded run: the next step would read a byte that is guarded against reads; store to one guarded against stores */
+    MOS6502_WOULD_READ = 13,
+    MOS6502_WOULD_STORE = 14,
+    /* of a run to an address: all its steps are made, and the counter is not at it */
+    MOS6502_NOT_THERE = 15
 };
 
 #endif

@@ -1,5 +1,5 @@
-//! The three programs whose rate is measured. Each runs for ever, starts at `START` and keeps changing memory, so that
-//! a wrong step shows in the end state.
+//! The programs whose rate is measured: three loops, and one that touches a device now and then. Each runs for ever, starts at
+//! `START` and keeps changing memory, so that a wrong step shows in the end state.
 //!
 //! No shift, rotate, INC or DEC is indexed by X over a page: there the Rust counts a cycle more than the manual.
 
@@ -45,6 +45,18 @@ pub fn all() -> [Loop; 3] {
             image: nested_calls(),
         },
     ]
+}
+
+/// Where the device stands that the program of `touching` touches.
+pub const DEVICE: u16 = 0xD000;
+
+/// The program that touches a device at every hundredth step, in turn to read a byte and to store one.
+#[must_use]
+pub fn touching() -> Loop {
+    Loop {
+        name: "a device",
+        image: hundred_and_hundred(),
+    }
 }
 
 fn image_of(code: &[u8]) -> Vec<u8> {
@@ -140,4 +152,36 @@ fn nested_calls() -> Vec<u8> {
         0x68, //             0224       PLA
         0x60, //             0225       RTS
     ])
+}
+
+/// The bytes of one table are added to another's, and back by an exclusive or: a hundred steps each, the 97th of them at the device.
+/// It goes on with what it read there, so that a byte that is lost shows.
+fn hundred_and_hundred() -> Vec<u8> {
+    let mut image = image_of(&[
+        0xA2, 0x13, //       0200 round LDX #$13
+        0xBD, 0x00, 0x30, // 0202 add   LDA $3000,X
+        0x7D, 0x80, 0x30, // 0205       ADC $3080,X
+        0x9D, 0x00, 0x30, // 0208       STA $3000,X
+        0xCA, //             020B       DEX
+        0xD0, 0xF4, //       020C       BNE add
+        0xAD, 0x00, 0xD0, // 020E       LDA $D000   the device
+        0x65, 0x20, //       0211       ADC $20
+        0x85, 0x20, //       0213       STA $20
+        0x8D, 0x90, 0x30, // 0215       STA $3090
+        0xA2, 0x13, //       0218       LDX #$13
+        0xBD, 0x80, 0x30, // 021A mix   LDA $3080,X
+        0x5D, 0x00, 0x30, // 021D       EOR $3000,X
+        0x9D, 0x80, 0x30, // 0220       STA $3080,X
+        0xCA, //             0223       DEX
+        0xD0, 0xF4, //       0224       BNE mix
+        0x8D, 0x00, 0xD0, // 0226       STA $D000   the device
+        0xE6, 0x21, //       0229       INC $21
+        0x18, //             022B       CLC
+        0x4C, 0x00, 0x02, // 022C       JMP round
+    ]);
+    for index in 0..0x14 {
+        image[0x3000 + index] = (index * 53 + 7) as u8;
+        image[0x3080 + index] = (index * 37 + 11) as u8;
+    }
+    image
 }

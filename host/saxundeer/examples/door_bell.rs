@@ -2,12 +2,12 @@
 //! rung at every thousandth question; reading its register takes the ring away, as in many a real part, which a plain memory
 //! cannot do.
 //!
-//!     cargo run --offline --features watch --example door_bell
+//!     cargo run --offline --features devices --example door_bell
 
 use std::process::ExitCode;
 
-use saxundeer::devices::{Device, run_with};
-use saxundeer::{Lines, MEMORY_SIZE, Machine, RunAnswer};
+use saxundeer::devices::{Device, Placed, run_with};
+use saxundeer::{AddressSet, Lines, MEMORY_SIZE, Machine, RunAnswer};
 
 /// Bit 7 is set where it rang since the last question.
 const RUNG: u16 = 0xD000;
@@ -60,15 +60,12 @@ fn main() -> ExitCode {
     let mut machine = Machine::new();
     machine.registers.program_counter = 0x0200;
     let mut bell = Bell::default();
-    let answer = run_with(
-        machine,
-        100_000,
-        Lines::IDLE,
-        RUNG..=ANSWERED,
-        &mut bell,
-        &mut memory,
-    );
-    match answer {
+    let addresses = AddressSet::from(RUNG..=ANSWERED);
+    let devices = &mut [Placed {
+        addresses: &addresses,
+        device: &mut bell,
+    }];
+    match run_with(machine, 100_000, Lines::IDLE, devices, &mut memory) {
         RunAnswer::NotAnOpcode(progress)
             if progress.machine.registers.program_counter == END && bell.answers == [1, 2, 3] =>
         {

@@ -39,7 +39,7 @@ fn main() -> ExitCode {
     // cpu.run();    which came back here, whatever had happened
     // println!("{}", cpu.registers.accumulator);
     match run_to(machine, 0x021B, 10_000, Lines::IDLE, &mut memory) {
-        Ending::Arrived(progress) => {
+        Ending::Arrived { progress, .. } => {
             println!("{}", progress.machine.registers.accumulator);
             ExitCode::SUCCESS
         }

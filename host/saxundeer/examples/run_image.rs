@@ -5,7 +5,7 @@ use std::fs;
 use std::io::{self, Write};
 use std::process::ExitCode;
 
-use saxundeer::{Ending, Lines, Machine, Progress, run_to};
+use saxundeer::{Lines, Machine, Progress, RunAnswer, long_run};
 
 const USAGE: &str = "usage: run_image STOP LIMIT IMAGE, as in: run_image 020B 50000000 night.img";
 
@@ -29,12 +29,15 @@ fn report(stop: u16, limit: u64, memory: &mut [u8]) -> (String, u8) {
     let Some(machine) = Machine::start(memory) else {
         return ("1".into(), 1);
     };
-    match run_to(machine, stop, limit, Lines::IDLE, memory) {
-        Ending::Arrived(progress) => (line(3, &progress), 0),
-        Ending::BrokeOff(progress) => (line(3, &progress), 3),
-        Ending::StillRunning(progress) => (line(0, &progress), 20),
-        Ending::NoCycleRoom(progress) => (line(2, &progress), 2),
-        Ending::MemoryNotFull(_) => ("1".into(), 1),
+    match long_run(machine, limit, Lines::IDLE, memory) {
+        RunAnswer::Made(progress) => (line(0, &progress), 20),
+        RunAnswer::NotAnOpcode(progress) => {
+            let is_there = progress.machine.registers.program_counter == stop;
+            (line(3, &progress), if is_there { 0 } else { 3 })
+        }
+        RunAnswer::NoCycleRoom(progress) => (line(2, &progress), 2),
+        RunAnswer::MemoryNotFull(_) => ("1".into(), 1),
+        RunAnswer::BoundTooHigh(_) => unreachable!("a long run takes any bound"),
     }
 }
 

@@ -16,4 +16,6 @@ pub(crate) const FIRST_ABOVE_LAST: u8 = 9;
 pub(crate) const NO_ROOM: u8 = 10;
 pub(crate) const MALFORMED_ENTRY: u8 = 11;
 pub(crate) const STRAY_ENTRY: u8 = 12;
-pub(crate) const HALTED: u8 = 13;
+pub(crate) const WOULD_READ: u8 = 13;
+pub(crate) const WOULD_STORE: u8 = 14;
+pub(crate) const NOT_THERE: u8 = 15;

@@ -1,4 +1,6 @@
-//! The C functions: mos6502.h says what each promises.
+//! The C functions: mos6502.h and mos6502_guard.h say what each promises.
+
+use crate::addresses::MAP_SIZE;
 
 /// The three kinds of run take the same.
 pub(crate) type RunFunction =
@@ -36,6 +38,39 @@ unsafe extern "C" {
         cycles: *mut u64,
         steps: *mut u64,
         limit: u64,
+        lines: u8,
+        memory: *mut u8,
+        length: usize,
+    ) -> u8;
+    pub(crate) fn mos6502_guarded_run(
+        registers: *mut u64,
+        cycles: *mut u64,
+        steps: *mut u64,
+        place: *mut u16,
+        bound: u64,
+        lines: u8,
+        reads: *const [u8; MAP_SIZE],
+        stores: *const [u8; MAP_SIZE],
+        memory: *mut u8,
+        length: usize,
+    ) -> u8;
+    pub(crate) fn mos6502_extract(
+        registers: *mut u64,
+        cycles: *mut u64,
+        steps: *mut u64,
+        place: *mut u16,
+        bound: u64,
+        lines: u8,
+        sealed: *const [u8; MAP_SIZE],
+        memory: *mut u8,
+        length: usize,
+    ) -> u8;
+    pub(crate) fn mos6502_run_to(
+        registers: *mut u64,
+        cycles: *mut u64,
+        steps: *mut u64,
+        stop: u16,
+        bound: u64,
         lines: u8,
         memory: *mut u8,
         length: usize,

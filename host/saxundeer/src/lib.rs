@@ -12,10 +12,14 @@
 //! memory[0xFFFD] = 0x02; // the program begins at 0200
 //! let machine = Machine::start(&memory).expect("the memory is full");
 //! match run_to(machine, 0x0202, 1000, Lines::IDLE, &mut memory) {
-//!     Ending::Arrived(progress) => assert_eq!(progress.machine.registers.accumulator, 0x05),
+//!     Ending::Arrived { progress, .. } => assert_eq!(progress.machine.registers.accumulator, 0x05),
 //!     other => panic!("it did not end where it should: {other:?}"),
 //! }
 //! ```
+//!
+//! A run that must not touch some addresses is a [`guarded_run`], halted before a step that would; what an [`extract`] leaves in
+//! memory may be handed out, whatever was sealed in it. Devices at some addresses are in the module `devices`, with the feature of
+//! that name.
 //!
 //! The interrupt lines are levels that a call is given and that hold for the whole of it. A line that is due is served before
 //! an opcode, in a step of its own:
@@ -43,10 +47,18 @@
 #[cfg(test)]
 extern crate std;
 
+mod addresses;
 mod answers;
-#[cfg(feature = "watch")]
+#[cfg(all(test, feature = "devices"))]
+mod device_tests;
+#[cfg(feature = "devices")]
 pub mod devices;
+#[cfg(feature = "devices")]
+pub mod footprint;
 mod functions;
+mod guard;
+#[cfg(test)]
+mod guard_tests;
 mod lines;
 mod machine;
 mod registers;
@@ -59,11 +71,9 @@ pub mod tapes;
 mod tests;
 #[cfg(feature = "traces")]
 pub mod traces;
-#[cfg(feature = "watch")]
-pub mod watch;
-#[cfg(all(test, feature = "watch"))]
-mod watch_tests;
 
+pub use addresses::AddressSet;
+pub use guard::{Guarded, extract, guarded_run};
 pub use lines::{Level, Lines};
 pub use machine::{MEMORY_SIZE, Machine};
 pub use registers::{Registers, StackPointer, Status};

@@ -35,6 +35,16 @@ impl Lines {
         ..Lines::IDLE
     };
 
+    /// The levels of lines that two pull, wired together: each is low if either pulls it low.
+    #[must_use]
+    #[inline]
+    pub fn wired_with(self, other: Lines) -> Lines {
+        Lines {
+            irq: self.irq.wired_with(other.irq),
+            nmi: self.nmi.wired_with(other.nmi),
+        }
+    }
+
     /// The byte that the C functions take.
     #[inline]
     pub(crate) fn byte(self) -> u8 {
@@ -43,6 +53,15 @@ impl Lines {
 }
 
 impl Level {
+    /// Low if either is low.
+    #[inline]
+    fn wired_with(self, other: Level) -> Level {
+        match (self, other) {
+            (Level::High, Level::High) => Level::High,
+            _ => Level::Low,
+        }
+    }
+
     /// Set if it is low, as in the numbers of the C functions.
     #[inline]
     pub(crate) fn bit(self) -> u8 {

@@ -29,6 +29,20 @@ pub enum RunAnswer {
     BoundTooHigh(Progress),
 }
 
+impl RunAnswer {
+    /// What a C function means that came so far and answered so.
+    pub(crate) fn of(answer: u8, progress: Progress) -> RunAnswer {
+        match answer {
+            answers::NOT_REFUSED => RunAnswer::Made(progress),
+            answers::MEMORY_NOT_FULL => RunAnswer::MemoryNotFull(progress),
+            answers::NO_CYCLE_ROOM => RunAnswer::NoCycleRoom(progress),
+            answers::NOT_AN_OPCODE => RunAnswer::NotAnOpcode(progress),
+            answers::BOUND_TOO_HIGH => RunAnswer::BoundTooHigh(progress),
+            _ => unreachable!("a run answered {answer}"),
+        }
+    }
+}
+
 /// At most `bound` steps with the lines at these levels in all of them, and `BoundTooHigh` if that is above
 /// `HIGHEST_BOUND`. NMI is served in the first of the steps or in none.
 pub fn run(machine: Machine, bound: u64, lines: Lines, memory: &mut [u8]) -> RunAnswer {
@@ -88,13 +102,5 @@ fn run_by(
         )
     };
     let machine = Machine::of_numbers(number, cycles);
-    let progress = Progress { steps, machine };
-    match answer {
-        answers::NOT_REFUSED => RunAnswer::Made(progress),
-        answers::MEMORY_NOT_FULL => RunAnswer::MemoryNotFull(progress),
-        answers::NO_CYCLE_ROOM => RunAnswer::NoCycleRoom(progress),
-        answers::NOT_AN_OPCODE => RunAnswer::NotAnOpcode(progress),
-        answers::BOUND_TOO_HIGH => RunAnswer::BoundTooHigh(progress),
-        _ => unreachable!("a run answered {answer}"),
-    }
+    RunAnswer::of(answer, Progress { steps, machine })
 }

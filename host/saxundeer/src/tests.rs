@@ -26,6 +26,11 @@ pub(super) fn memory_with(code: &[u8]) -> Vec<u8> {
     memory
 }
 
+/// LDX #$03, LDA $4000,X, STA $5000,X, DEX, BPL to the load, and at 020B a byte that is no opcode.
+pub(super) const COPY: [u8; 12] = [
+    0xA2, 0x03, 0xBD, 0x00, 0x40, 0x9D, 0x00, 0x50, 0xCA, 0x10, 0xF7, 0x02,
+];
+
 #[test]
 fn a_status_is_the_byte_that_is_pushed() {
     for byte in 0..=0xFF {
@@ -366,11 +371,11 @@ fn a_bound_above_a_million_is_refused() {
 }
 
 /// Three counters, each of 256 rounds: DEX, BNE -3, DEY, BNE -6, DEC 10, BNE -10, and at 020A a byte that is no opcode.
-const COUNTERS: [u8; 11] = [
+pub(super) const COUNTERS: [u8; 11] = [
     0xCA, 0xD0, 0xFD, 0x88, 0xD0, 0xFA, 0xC6, 0x10, 0xD0, 0xF6, 0x02,
 ];
 /// The steps that they make.
-const COUNTED: u64 = 2 * (256 + 256 * 256 + 256 * 256 * 256);
+pub(super) const COUNTED: u64 = 2 * (256 + 256 * 256 + 256 * 256 * 256);
 
 #[test]
 fn a_long_run_takes_any_bound() {
@@ -503,83 +508,7 @@ fn a_run_by_cycles_is_the_run_of_its_steps() {
     }
 }
 
-/// The progress of a run to a stop address, and whether it is the case that is expected.
-macro_rules! ended {
-    ($case:ident, $answer:expr) => {
-        match $answer {
-            Ending::$case(progress) => (progress.steps, progress.machine.registers.program_counter),
-            other => panic!("it ended as {other:?}"),
-        }
-    };
-}
-
-#[test]
-fn a_run_to_an_address_tells_five_endings_apart() {
-    let code = [0xA9, 0x05, 0x02];
-    assert_eq!(
-        ended!(
-            Arrived,
-            run_to(start(), 0x0202, 9, Lines::IDLE, &mut memory_with(&code))
-        ),
-        (1, 0x0202)
-    );
-    assert_eq!(
-        ended!(
-            BrokeOff,
-            run_to(start(), 0x020B, 9, Lines::IDLE, &mut memory_with(&code))
-        ),
-        (1, 0x0202)
-    );
-    assert_eq!(
-        ended!(
-            StillRunning,
-            run_to(start(), 0x0202, 1, Lines::IDLE, &mut memory_with(&code))
-        ),
-        (1, 0x0202)
-    );
-    assert_eq!(
-        ended!(
-            StillRunning,
-            run_to(start(), 0x0202, 0, Lines::IDLE, &mut memory_with(&code))
-        ),
-        (0, 0x0200)
-    );
-    assert_eq!(
-        ended!(
-            MemoryNotFull,
-            run_to(start(), 0x0202, 9, Lines::IDLE, &mut [])
-        ),
-        (0, 0x0200)
-    );
-    let late = Machine {
-        cycles: HIGHEST_CYCLES + 1,
-        ..start()
-    };
-    assert_eq!(
-        ended!(
-            NoCycleRoom,
-            run_to(late, 0x0202, 9, Lines::IDLE, &mut memory_with(&code))
-        ),
-        (0, 0x0200)
-    );
-}
-
-#[test]
-fn a_run_to_an_address_goes_on_after_a_million_steps() {
-    let run = |limit| {
-        run_to(
-            start(),
-            0x020A,
-            limit,
-            Lines::IDLE,
-            &mut memory_with(&COUNTERS),
-        )
-    };
-    assert_eq!(ended!(Arrived, run(u64::MAX)), (COUNTED, 0x020A));
-    assert_eq!(ended!(StillRunning, run(2_500_000)).0, 2_500_000);
-}
-
-const BOTH_LOW: Lines = Lines {
+pub(super) const BOTH_LOW: Lines = Lines {
     irq: Level::Low,
     nmi: Level::Low,
 };
@@ -727,7 +656,7 @@ fn a_record_is_renewed_by_a_step_and_stays_as_it_was_in_a_refusal() {
 }
 
 /// 0200 CLI, 0201 NOP, 0202 JMP $0201; NMI leads to 0300 and IRQ to 0400, to an INC of 10 or 11 and RTI each.
-fn memory_with_handlers() -> Vec<u8> {
+pub(super) fn memory_with_handlers() -> Vec<u8> {
     let mut memory = memory_with(&[0x58, 0xEA, 0x4C, 0x01, 0x02]);
     memory[0x0300..0x0303].copy_from_slice(&[0xE6, 0x10, 0x40]);
     memory[0x0400..0x0403].copy_from_slice(&[0xE6, 0x11, 0x40]);

@@ -2,8 +2,11 @@
 
 use oracle::loops;
 use oracle::state::State;
-use saxundeer::watch::{Watched, watched_run};
-use saxundeer::{HIGHEST_BOUND, Lines, Machine, Progress, RunAnswer, StepAnswer};
+use saxundeer::devices::{Device, Placed, run_with};
+use saxundeer::{
+    AddressSet, Guarded, HIGHEST_BOUND, Lines, Machine, Progress, RunAnswer, StepAnswer,
+    guarded_run,
+};
 
 use crate::states::{machine_of, state_of};
 
@@ -30,11 +33,14 @@ pub const ALL: [(&str, Way); 5] = [
     ("cycles", by_cycles),
     ("step", by_step),
     ("crate", by_crate),
-    ("watched", by_watched_run),
+    ("guarded", by_guarded_run),
 ];
 
-/// A page that no loop reads: the watched run has it sealed.
-const SEALED_PAGE: usize = 0xF0;
+/// The way of the program that touches a device.
+pub const DEVICES: (&str, Way) = ("devices", by_run_with);
+
+/// An address that no loop touches: the guarded run has it guarded.
+const GUARDED: u16 = 0xF000;
 
 /// By calls that are told how many steps are left, until all are made.
 fn in_parts(
@@ -136,15 +142,41 @@ fn by_crate(memory: &mut [u8], steps: u64) -> Result<State, String> {
     Ok(state_of(&machine))
 }
 
-/// By `mos6502_watched_run`, a million steps a call.
-fn by_watched_run(memory: &mut [u8], steps: u64) -> Result<State, String> {
-    let mut pages = [0; 256];
-    pages[SEALED_PAGE] = 1;
+/// By `mos6502_guarded_run`, a million steps a call.
+fn by_guarded_run(memory: &mut [u8], steps: u64) -> Result<State, String> {
+    let guarded = AddressSet::from(GUARDED..=GUARDED);
     in_parts(steps, |machine, left| {
         let bound = HIGHEST_BOUND.min(left);
-        match watched_run(machine, bound, Lines::IDLE, &pages, memory) {
-            Watched::Ran(answer) => whole(answer),
-            halted @ Watched::Halted { .. } => Err(format!("a watched run answered {halted:?}")),
+        match guarded_run(machine, bound, Lines::IDLE, &guarded, &guarded, memory) {
+            Guarded::Ran(answer) => whole(answer),
+            halted => Err(format!("a guarded run answered {halted:?}")),
         }
+    })
+}
+
+/// A device that keeps its byte, as a memory does: so it changes no state.
+struct Cell(u8);
+
+impl Device for Cell {
+    fn get_byte(&mut self, _address: u16) -> u8 {
+        self.0
+    }
+
+    fn set_byte(&mut self, _address: u16, value: u8) {
+        self.0 = value;
+    }
+}
+
+/// By the Rust crate's `run_with`, a million steps a call.
+fn by_run_with(memory: &mut [u8], steps: u64) -> Result<State, String> {
+    let addresses = AddressSet::from(loops::DEVICE..=loops::DEVICE);
+    let mut cell = Cell(memory[usize::from(loops::DEVICE)]);
+    in_parts(steps, |machine, left| {
+        let bound = HIGHEST_BOUND.min(left);
+        let devices = &mut [Placed {
+            addresses: &addresses,
+            device: &mut cell,
+        }];
+        whole(run_with(machine, bound, Lines::IDLE, devices, memory))
     })
 }

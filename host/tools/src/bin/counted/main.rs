@@ -36,10 +36,10 @@ fn counted(words: &[String]) -> Result<String, String> {
     let [program, way, steps @ (1..)] = numbers[..] else {
         return Err("usage: counted LOOP WAY STEPS".into());
     };
-    let program = loops::all().into_iter().nth(program as usize);
-    let program = program.ok_or("no such loop")?;
-    let way = OTHERS.into_iter().chain(ways::ALL).nth(way as usize);
-    let (head, way) = way.ok_or("no such way")?;
+    let mut programs = loops::all().into_iter().chain([loops::touching()]);
+    let program = programs.nth(program as usize).ok_or("no such loop")?;
+    let mut ways = OTHERS.into_iter().chain(ways::ALL).chain([ways::DEVICES]);
+    let (head, way) = ways.nth(way as usize).ok_or("no such way")?;
     let mut memory = program.image;
     let end = way(&mut memory, steps)?;
     let sum = memory.iter().fold(0_u64, |sum, byte| {

@@ -23,10 +23,12 @@ const ROUNDS: usize = 25;
 const GROWTH_ROUNDS: usize = 3;
 /// The Rust's two builds, then the port's ways.
 const COLUMNS: usize = 2 + ways::ALL.len();
-/// The columns of a run and of the watched run, and the part of the one's rate that is asked of the other.
+/// The columns of a run and of the guarded run.
 const RUN: usize = 2;
-const WATCHED: usize = COLUMNS - 1;
-const LEAST_WATCHED: f64 = 0.25;
+const GUARDED: usize = COLUMNS - 1;
+/// The part of a run's rate that is asked of the guarded run, and of a program with a device.
+const LEAST_GUARDED: f64 = 0.4;
+const LEAST_WITH_DEVICE: f64 = 0.3;
 
 fn time_port(way: Way, image: &[u8], steps: u64) -> Result<Run, String> {
     let mut memory = image.to_vec();
@@ -59,18 +61,51 @@ fn time_all(fat: &Fat, image: &[u8]) -> Result<[Duration; COLUMNS], String> {
     Ok(times)
 }
 
+/// The program that touches a device, by runs and with the device, both ending as the Rust does.
+fn time_touching(image: &[u8]) -> Result<[Duration; 2], String> {
+    let rust = time_rust(image, STEPS)?;
+    let mut times = [Duration::ZERO; 2];
+    for (time, way) in times.iter_mut().zip([ways::by_run, ways::DEVICES.1]) {
+        let port = time_port(way, image, STEPS)?;
+        same(&rust, &port)?;
+        *time = port.0;
+    }
+    Ok(times)
+}
+
+/// The shorter of the times, column by column.
+fn keep_best<const N: usize>(best: &mut [Duration; N], times: [Duration; N]) {
+    for (best, time) in best.iter_mut().zip(times) {
+        *best = time.min(*best);
+    }
+}
+
+fn rate_of(time: Duration) -> f64 {
+    STEPS as f64 / time.as_secs_f64() / 1e6
+}
+
+/// The rate of a time as a part of a run's, with a mark where it is less than is asked for.
+fn part_of(run: Duration, time: Duration, least: f64) -> String {
+    let part = run.as_secs_f64() / time.as_secs_f64();
+    format!("{part:.3}{}", if part < least { "!" } else { "" })
+}
+
 fn measure() -> Result<(), String> {
     let fat = Fat::load()?;
     let loops = loops::all();
+    let touching = loops::touching();
     let mut best = [[Duration::MAX; COLUMNS]; 3];
+    let mut best_touching = [Duration::MAX; 2];
     for _ in 0..ROUNDS {
         for (program, best) in loops.iter().zip(&mut best) {
-            let times =
-                time_all(&fat, &program.image).map_err(|fault| fault_in(program, &fault))?;
-            for (best, time) in best.iter_mut().zip(times) {
-                *best = time.min(*best);
-            }
+            let times = time_all(&fat, &program.image);
+            keep_best(best, times.map_err(|fault| fault_in(program, &fault))?);
         }
+        let times = time_touching(&touching.image);
+        keep_best(
+            &mut best_touching,
+            times.map_err(|fault| fault_in(&touching, &fault))?,
+        );
     }
     let heads = ways::ALL.map(|(head, _)| head);
     print!("{:14}{:>10}{:>10}", "M steps/s", "Rust", "lto=fat");
@@ -81,8 +116,7 @@ fn measure() -> Result<(), String> {
             .concat()
     );
     for (program, best) in loops.iter().zip(&best) {
-        let rates = best.map(|time| STEPS as f64 / time.as_secs_f64() / 1e6);
-        let [rust, fat, port @ ..] = rates;
+        let [rust, fat, port @ ..] = best.map(rate_of);
         print!("{:14}{rust:10.1}{fat:10.1}", program.name);
         println!(
             "{}",
@@ -90,13 +124,20 @@ fn measure() -> Result<(), String> {
                 .concat()
         );
     }
-    print!("watched / run:");
+    print!("guarded / run:");
     for (program, best) in loops.iter().zip(&best) {
-        let part = best[RUN].as_secs_f64() / best[WATCHED].as_secs_f64();
-        let mark = if part < LEAST_WATCHED { "!" } else { "" };
-        print!(" {} {part:.3}{mark};", program.name);
+        let part = part_of(best[RUN], best[GUARDED], LEAST_GUARDED);
+        print!(" {} {part};", program.name);
     }
-    println!(" at least {LEAST_WATCHED} is asked for, and ! marks less.");
+    println!(" at least {LEAST_GUARDED} is asked for, and ! marks less.");
+    let [run, devices] = best_touching;
+    println!(
+        "{}, touched every hundred steps: run {:.1}, devices {:.1}; devices / run: {}; at least {LEAST_WITH_DEVICE} is asked for.",
+        touching.name,
+        rate_of(run),
+        rate_of(devices),
+        part_of(run, devices, LEAST_WITH_DEVICE)
+    );
     println!(
         "{STEPS} steps a run, the best of {ROUNDS} runs by processor time; the end states were equal after each."
     );
