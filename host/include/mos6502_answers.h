@@ -3,7 +3,8 @@
 #define MOS6502_ANSWERS_H
 
 enum mos6502_answer {
-    /* what was asked for is not refused; of a run: all its steps are made, or its cycles spent, and its program still runs */
+    /* what was asked for is not refused; of a run: all its steps are made, or its cycles spent, and its program still runs;
+     * of a run to an address: the counter is at it */
     MOS6502_NOT_REFUSED = 0,
     /* the memory or the image is not 65,536 bytes long */
     MOS6502_MEMORY_NOT_FULL = 1,

@@ -1,7 +1,9 @@
--- The answers by name: docs/RULES.md says when each is given. An exit status from 1 to 14 is one of them too.
+-- The answers by name: docs/RULES.md says when each is given. An exit status from 1 to 13 is one of them too; 14 and 15 are
+-- given to hosts alone.
 use Prim.Native.Nat.{ℕ}
 
--- of every function: what was asked for is not refused; of a run: all its steps are made, or its cycles spent, and its program still runs
+-- of every function: what was asked for is not refused; of a run: all its steps are made, or its cycles spent, and its program still runs;
+-- of a run to an address: the counter is at it
 abbrev pub notRefused : ℕ
 notRefused = 0
 

@@ -2,7 +2,7 @@
 // too; 14 and 15 are given to hosts alone.
 
 // Of every function: what was asked for is not refused. Of a run: all its steps are made, or its cycles spent, and its program
-// still runs.
+// still runs. Of a run to an address: the counter is at it.
 pub const NOT_REFUSED: u8 = 0;
 
 // Of whatever takes a memory or an image: it is not 65,536 bytes long.

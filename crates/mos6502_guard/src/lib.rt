@@ -1,5 +1,5 @@
 // The guarded run, the extract and the run to an address on numbers, for a host in C or Rust: see host/include/mos6502_guard.h.
-// They are an archive of its own, so that its loop is the only caller of what a step does in it: what has one caller is put into
+// They are an archive of their own, so that its loop is the only caller of what a step does in it: what has one caller is put into
 // it.
 ghost use mathlib.Core.Path.{_≡_};
 ghost use lib.ListN.{length};

@@ -21,6 +21,6 @@ leftFile goal (Guarded.Halted h) m = m
 unfoldable pub runAfter : (ℕ → Bool) → Work → List ℕ → List ℕ
 runAfter sealed w file = let x = imageExtract sealed (w .steps) file in leftFile (w .goal) (x .0) (x .1)
 
--- the longest word that Linux hands to a program
+-- no word that Linux hands to a program is longer
 abbrev pub longestWord : ℕ
 longestWord = 131072

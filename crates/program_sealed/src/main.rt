@@ -62,7 +62,7 @@ use statuses::WRONG_USAGE;
 use statuses::first_of;
 use text_reading::rest;
 
-// The longest word that Linux hands to a program.
+// No word that Linux hands to a program is longer.
 const LONGEST_WORD: usize = 131072;
 
 fn word_buffer() -> [u8; LONGEST_WORD]

@@ -136,8 +136,9 @@ pub fn step_with(
     step_and_tell(machine, levels, devices, memory)
 }
 
-/// At most `bound` steps, any number of them, with devices at their addresses: the same calls and the same answer as so many times
-/// [`step_with`], and never `BoundTooHigh`. A line is low if it is low in `lines` or a device pulls it.
+/// At most `bound` steps, any number of them, with devices at their addresses, and never `BoundTooHigh`. A line is low if it is low
+/// in `lines` or a device pulls it. It makes the same calls and gives the same answer as so many times [`step_with`], as long as a
+/// device moves its lines only when one is touched: this asks for them then, that before each step.
 pub fn run_with(
     machine: Machine,
     bound: u64,

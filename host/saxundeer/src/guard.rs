@@ -101,8 +101,8 @@ pub fn guarded_run(
 
 /// The same with the addresses of `sealed` guarded against reads and none against stores, so that it never answers `WouldStore`, and
 /// with the sealed bytes made 00 before the first step: since none is read, that changes no answer. All of the memory that it leaves
-/// may be handed out, whatever it answers: what was sealed and never stored to comes back as 00. Only if the memory is not
-/// `MEMORY_SIZE` long is no byte changed.
+/// may be handed out: what was sealed and never stored to comes back as 00. That holds of every answer but `MemoryNotFull`, with
+/// which no byte is changed.
 ///
 /// ```
 /// use saxundeer::{AddressSet, Guarded, Lines, MEMORY_SIZE, Machine, RunAnswer, extract};
