@@ -1,4 +1,6 @@
 // The thirteen addressing modes, after fetch_next_and_decode of cpu.rs.
+#![tactic(auto)]
+
 ghost use Rattle.std.specs.Prelude.{◌≡◌, ◌+◌, [], ◌∷◌, length, slice_index};
 ghost use Rattle.manual.specs.Micro.{Gives};
 ghost use Rattle.manual.specs.Words.{low_byte, joined};

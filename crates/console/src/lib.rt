@@ -1,6 +1,8 @@
 // What the programs share of their input and output: an argument, the input that it names, a sentence about it, and the
 // status that is handed over. If something fails it is said on standard error here, and the cell `failed`, which the
 // caller lends, keeps the first status that says so: 0 before there is one.
+#![tactic(auto)]
+
 mod arguments; // arguments.rt: the words after a program's name
 mod inputs; // inputs.rt: an input that is read
 mod names; // names.rt: the name of a file, as it is printed

@@ -1,4 +1,6 @@
 // The end of a program that was given an image: the sentence about it, and the status of its run.
+#![tactic(auto)]
+
 ghost use Rattle.std.specs.Prelude.{◌≡◌};
 ghost use Rattle.statuses.specs.Statuses.{end_status};
 ghost use Rattle.console.specs.Failing.{FailureStays};

@@ -1,5 +1,7 @@
 // A file that is written whole and at once, or not at all: one beside it is written, reaches the disk and takes its name. A
 // symbolic link is followed, a file that is there keeps its mode, and sentences name the file as it was typed.
+#![tactic(auto)]
+
 ghost use Rattle.std.specs.Prelude.{◌≤◌, ◌≡◌, length, take};
 ghost use Rattle.io.specs.Counts.{IsPrefixLen};
 ghost use Rattle.statuses.specs.Statuses.{first_of};

@@ -1,4 +1,6 @@
 // What the programs of tapes share: a text that is read, moved to the other format and printed; what is said of it, and its status.
+#![tactic(auto)]
+
 ghost use Rattle.io.specs.Counts.{IsPrefixLen};
 ghost use Rattle.console.specs.Failing.{FailureStays};
 ghost use Rattle.std.specs.Prelude.{◌≤◌, ◌≡◌, take};

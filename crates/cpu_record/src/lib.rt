@@ -1,4 +1,6 @@
 // A step on a machine that the caller keeps in a record of its own and lends (P13).
+#![tactic(auto)]
+
 ghost use Rattle.std.specs.Prelude.{length};
 ghost use Rattle.manual.specs.Micro.{Gives};
 ghost use Rattle.manual.specs.Stepping.{step};

@@ -1,4 +1,6 @@
 // What a step will read and what it will store to, found before it is made. Nothing is changed.
+#![tactic(auto)]
+
 ghost use Rattle.std.specs.Prelude.{◌≡◌, ◌+◌, ◌<◌, [], ◌∷◌, length};
 ghost use Rattle.manual.specs.Stepping.{full_memory};
 ghost use Rattle.manual.specs.ReadList.{listed_due, listed_step_full, listed_step};

@@ -1,5 +1,7 @@
 // A run that is halted before a step that would touch a guarded byte: read one that is guarded against reads, so that nothing it
 // gives was made with one, or store to one that is guarded against stores.
+#![tactic(auto)]
+
 ghost use Rattle.std.specs.Prelude.{◌≡◌, ◌+◌, ◌-◌, ◌<◌, false, not, ◌&&◌, length, if◌then◌else◌};
 ghost use Rattle.manual.specs.Outcomes.{machine_of};
 ghost use Rattle.manual.specs.Interrupts.{due};

@@ -1,5 +1,7 @@
 // The run of an image with some of its bytes sealed: they are blanked first, and guarded against reads, so that all that comes out
 // can be handed out.
+#![tactic(auto)]
+
 ghost use Rattle.std.specs.Prelude.{◌+◌, ◌≤◌, ◌≡◌, length};
 ghost use Rattle.text_writing.specs.Numerals.{decimal};
 ghost use Rattle.text_writing.specs.Written.{Wrote};

@@ -1,4 +1,6 @@
 // What is guarded, and what a step would touch of it.
+#![tactic(auto)]
+
 ghost use Rattle.std.specs.Prelude.{ℕ, ◌≡◌, ◌||◌, eqb, length, replicate};
 ghost use Rattle.manual.specs.Stepping.{full_memory};
 ghost use Rattle.footprint.specs.Places.{addresses};

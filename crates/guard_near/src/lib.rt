@@ -1,6 +1,8 @@
 // Which steps cannot touch a guarded byte, found in a few instructions: by the bytes of the maps, eight addresses each, that its
 // addresses lie in. A step that may touch one is looked at exactly; so a guarded byte beside those that a program uses costs
 // time, and nothing else.
+#![tactic(auto)]
+
 ghost use Rattle.std.specs.Prelude.{◌≡◌, ◌<◌, false, length};
 ghost use Rattle.manual.specs.Words.{joined};
 ghost use Rattle.manual.specs.Stepping.{full_memory};

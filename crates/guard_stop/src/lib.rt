@@ -1,5 +1,7 @@
 // A run that is over when the counter is at an address before a step. That address is guarded against reads, since a step from it
 // reads the opcode there: so the run goes at the pace of a guarded one, and where it is halted the counter is looked at.
+#![tactic(auto)]
+
 ghost use Rattle.std.specs.Prelude.{◌+◌, ◌<◌, ◌≡◌, true, false, eqb, length};
 ghost use Rattle.manual.specs.Micro.{Gives};
 ghost use Rattle.manual.specs.Stepping.{full_memory, run_full};

@@ -1,4 +1,6 @@
 // A halted run in one file: the memory, and then the line of the state. So nobody goes on from a memory whose state is lost.
+#![tactic(auto)]
+
 ghost use Rattle.std.specs.Prelude.{◌+◌, ◌≤◌, ◌≡◌, length, take};
 ghost use Rattle.io.specs.Counts.{IsPrefixLen};
 ghost use Rattle.manual.specs.Stepping.{full_memory};

@@ -1,4 +1,6 @@
 // Where the run of an image begins, and what a report of it is (specs/).
+#![tactic(auto)]
+
 ghost use Rattle.std.specs.Prelude.{◌≡◌};
 ghost use Rattle.image_run.specs.Report.{start as Report·start, image_start};
 

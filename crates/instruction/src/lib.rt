@@ -1,4 +1,6 @@
 // The instructions and addressing modes of the NMOS 6502, after instruction.rs.
+#![tactic(auto)]
+
 ghost use Rattle.std.specs.Prelude.{◌≤◌, ◌≡◌};
 ghost use Rattle.instruction.specs.Modes.{operand_bytes};
 

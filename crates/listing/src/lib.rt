@@ -1,4 +1,6 @@
 // A listing of a stretch of memory, for the classroom.
+#![tactic(auto)]
+
 ghost use Rattle.std.specs.Prelude.{◌≤◌, ◌≡◌, length};
 ghost use Rattle.text_writing.specs.Delivered.{with_buffer};
 ghost use Rattle.listing.specs.Listing.{listing_into};

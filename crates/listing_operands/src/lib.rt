@@ -1,4 +1,6 @@
 // How the manual writes an operand, with the space before it.
+#![tactic(auto)]
+
 ghost use Rattle.std.specs.Prelude.{◌≡◌, length};
 ghost use Rattle.text_writing.specs.Written.{Wrote};
 ghost use Rattle.listing_operands.specs.Operands.{operand};

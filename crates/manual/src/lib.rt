@@ -1,4 +1,6 @@
 // The values that the definition in specs/ and the code above it share, and how they are made. The definition itself is no code.
+#![tactic(auto)]
+
 ghost use Rattle.std.specs.Prelude.{◌≡◌};
 ghost use Rattle.manual.specs.Outcomes.{leaves_at, leaves, machine_of, number, is_made, stepped, ended};
 ghost use Rattle.manual.specs.Interrupts.{idle, due};

@@ -1,4 +1,6 @@
 // Addresses, and the bytes of the lent memory at them, after memory.rs.
+#![tactic(auto)]
+
 ghost use Rattle.std.specs.Prelude.{◌≡◌, ◌+◌, [], ◌∷◌, length, replicate, slice_index, slice_set};
 ghost use Rattle.manual.specs.Words.{low_byte, address_of, page, joined};
 ghost use Rattle.manual.specs.Stepping.{full_memory};

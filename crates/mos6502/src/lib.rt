@@ -1,4 +1,6 @@
 // The core on numbers, for a host in C or Rust: see host/include/mos6502.h. A step by itself is in `mos6502_step`.
+#![tactic(auto)]
+
 ghost use Rattle.std.specs.Prelude.{◌≡◌, true, ◌<◌, length};
 ghost use Rattle.registers.specs.State.{registers_of};
 ghost use Rattle.registers.specs.StatusByte.{bit, pushed_byte, pulled_status};

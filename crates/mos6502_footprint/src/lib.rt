@@ -1,4 +1,6 @@
 // What a step will read and store to, on numbers, for a host in C or Rust: see host/include/mos6502_footprint.h.
+#![tactic(auto)]
+
 ghost use Rattle.std.specs.Prelude.{◌≡◌, length};
 ghost use Rattle.manual.specs.ReadList.{listed_step};
 ghost use Rattle.manual.specs.StoreList.{stored_by_step};

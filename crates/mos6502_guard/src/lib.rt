@@ -1,6 +1,8 @@
 // The guarded run, the extract and the run to an address on numbers, for a host in C or Rust: see host/include/mos6502_guard.h.
 // They are an archive of their own, so that its loop is the only caller of what a step does in it: what has one caller is put into
 // it.
+#![tactic(auto)]
+
 ghost use Rattle.std.specs.Prelude.{◌≡◌, length};
 ghost use Rattle.manual.specs.Micro.{Gives};
 ghost use Rattle.guard_maps.specs.Maps.{in_map};

@@ -1,4 +1,6 @@
 // The listing, for a host in C or Rust: see host/include/mos6502_listing.h.
+#![tactic(auto)]
+
 ghost use Rattle.std.specs.Prelude.{◌≡◌};
 ghost use Rattle.listing.specs.Listing.{listing_into};
 

@@ -1,4 +1,6 @@
 // The machine, its registers and the levels of the lines as numbers, for each archive that a host links.
+#![tactic(auto)]
+
 ghost use Rattle.std.specs.Prelude.{◌≡◌, cond};
 ghost use Rattle.mos6502_numbers.specs.Packed.{packed, unpacked, unpacked_nmi};
 ghost use Rattle.mos6502_numbers.specs.Machines.{machine_from, lines_from, registers_after, cycles_after};

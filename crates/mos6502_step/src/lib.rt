@@ -1,6 +1,8 @@
 // A step on numbers, for a host in C or Rust: see host/include/mos6502_step.h. It has an archive of its own: what a step does has one
 // caller in each, so that the compiler puts all of it into this function here, and there into the loop of the runs, which drops
 // the first address of a step.
+#![tactic(auto)]
+
 ghost use Rattle.std.specs.Prelude.{◌≡◌};
 ghost use Rattle.mos6502.specs.Calls.{StepCall};
 

@@ -1,4 +1,6 @@
 // The tapes and Intel HEX, for a host in C or Rust: see host/include/mos6502_tapes.h.
+#![tactic(auto)]
+
 ghost use Rattle.std.specs.Prelude.{◌≡◌};
 ghost use Rattle.tape_paper.specs.Tapes.{read_tape};
 ghost use Rattle.tape_intel.specs.IntelHex.{read_hex};

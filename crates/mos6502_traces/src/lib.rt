@@ -1,4 +1,6 @@
 // The check of a recorded trace, for a host in C or Rust: see host/include/mos6502_traces.h.
+#![tactic(auto)]
+
 ghost use Rattle.std.specs.Prelude.{◌≡◌};
 ghost use Rattle.trace_checking.specs.Checking.{checked_of, checked_trace};
 

@@ -1,4 +1,6 @@
 // What a row of the opcode table gives: an operation, an addressing mode and base cycles carried out.
+#![tactic(auto)]
+
 ghost use Rattle.std.specs.Prelude.{◌≡◌, ◌+◌, ◌≤◌};
 ghost use Rattle.opcode_effects.specs.Inner.Performing.{ticks_of, performed_from, finished};
 

@@ -1,4 +1,6 @@
 // The operations and the addressing modes by number: what each number stands for. The rows name them so.
+#![tactic(auto)]
+
 ghost use Rattle.std.specs.Prelude.{◌≡◌};
 ghost use Rattle.opcode_numbers.specs.Inner.Operations.{mode_at, operation_at};
 ghost use Rattle.opcode_numbers.specs.Inner.Storing.{storing_at};

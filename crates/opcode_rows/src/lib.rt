@@ -1,5 +1,7 @@
 // The opcodes: a row for each of the 151, with its operation, its addressing mode and its base cycles. In a row all
 // three are fixed, and the compiler leaves out of it all that the opcode does not do. It makes one jump of the `match`.
+#![tactic(auto)]
+
 ghost use Rattle.std.specs.Prelude.{◌≡◌, length};
 ghost use Rattle.instruction.specs.Opcodes.{decoded};
 ghost use Rattle.manual.specs.Micro.{Gives};

@@ -1,4 +1,6 @@
 // The opcode table, after decode of instruction.rs: three arrays of numbers, a row for each high digit of the opcode.
+#![tactic(auto)]
+
 ghost use Rattle.std.specs.Prelude.{◌≡◌};
 ghost use Rattle.instruction.specs.Opcodes.{decoded};
 ghost use Rattle.opcode_table.specs.Inner.Arrays.{IsTable};

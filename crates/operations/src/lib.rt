@@ -1,4 +1,6 @@
 // What each class of instruction does that does not use the stack, after execute_instruction of cpu.rs.
+#![tactic(auto)]
+
 ghost use Rattle.std.specs.Prelude.{◌≡◌, length};
 ghost use Rattle.instruction.specs.Modes.{operand_bytes};
 ghost use Rattle.manual.specs.Micro.{done, Gives};

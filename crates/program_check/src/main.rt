@@ -15,6 +15,8 @@
 // failed. Of several logs the first status that is not 0; every one that can be read is checked.
 //
 // What is accepted is promised by the crate trace_checking, also part by part, and what the line and the sentence say by trace_text.
+#![tactic(auto)]
+
 ghost use Rattle.std.specs.Prelude.{◌≡◌, ◌≤◌, length, take};
 ghost use Rattle.statuses.specs.Statuses.{log_status, first_of};
 ghost use Rattle.console.specs.Failing.{FailureStays};

@@ -17,6 +17,8 @@
 //
 // What is run, the line, the sentence, the status and what is kept are promised by the functions below, and by the crates
 // image_run, statuses and image_halted.
+#![tactic(auto)]
+
 ghost use Rattle.std.specs.Prelude.{◌+◌, ◌≤◌, ◌≡◌, length, take};
 ghost use Rattle.manual.specs.Stepping.{full_memory};
 ghost use Rattle.statuses.specs.Statuses.{first_of};

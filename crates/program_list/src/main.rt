@@ -10,6 +10,8 @@
 // more than 262,144 characters; 64 wrong usage, 66 the image cannot be opened, 74 reading or writing failed.
 //
 // What the listing and its answer are is promised by the crate listing; here it is read and written.
+#![tactic(auto)]
+
 ghost use Rattle.std.specs.Prelude.{◌≡◌, length, take};
 ghost use Rattle.statuses.specs.Statuses.{first_of};
 ghost use Rattle.console.specs.Failing.{FailureStays};

@@ -16,6 +16,8 @@
 //
 // What is laid, the answer and the sentence are promised by the crate tape_loading; the status and what is kept by the functions
 // below.
+#![tactic(auto)]
+
 ghost use Rattle.std.specs.Prelude.{◌≤◌, ◌≡◌, length, take, replicate};
 ghost use Rattle.manual.specs.Stepping.{full_memory};
 ghost use Rattle.statuses.specs.Statuses.{first_of};

@@ -10,6 +10,8 @@
 // image cannot be opened, 74 reading or writing failed.
 //
 // What the tape says is promised by the crate tape_punching, and the status by the functions below.
+#![tactic(auto)]
+
 ghost use Rattle.std.specs.Prelude.{◌≡◌, take};
 ghost use Rattle.statuses.specs.Statuses.{first_of};
 ghost use Rattle.console.specs.Failing.{FailureStays};

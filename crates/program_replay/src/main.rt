@@ -7,6 +7,8 @@
 //
 // Exit status: 0 there are lines and none differs; 1 one differs, or there is none, or the list is too long; 64 wrong usage,
 // 66 the list cannot be opened, 74 reading or writing failed.
+#![tactic(auto)]
+
 ghost use Rattle.std.specs.Prelude.{◌≤◌, ◌≡◌, length, take};
 ghost use Rattle.statuses.specs.Statuses.{check_status, first_of};
 ghost use Rattle.console.specs.Failing.{FailureStays};

@@ -12,6 +12,8 @@
 // failed. Of several images the first status that is not 0; every one that can be read is run.
 //
 // What the line, the sentence and the status say is promised by image.rt, and by the crates sentences and statuses.
+#![tactic(auto)]
+
 ghost use Rattle.std.specs.Prelude.{◌-◌, ◌<◌, ◌≤◌, ◌≡◌, length, take};
 ghost use Rattle.statuses.specs.Statuses.{first_of};
 ghost use Rattle.console.specs.Failing.{FailureStays};

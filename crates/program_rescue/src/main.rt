@@ -16,6 +16,8 @@
 // nothing is written then; 64 wrong usage, 66 the tape cannot be opened, 74 reading or writing failed.
 //
 // What is saved and the sentences are promised by the crates tape_rescuing and tape_loading, and the status by the functions below.
+#![tactic(auto)]
+
 ghost use Rattle.std.specs.Prelude.{◌≡◌, take};
 ghost use Rattle.statuses.specs.Statuses.{first_of};
 ghost use Rattle.console.specs.Failing.{FailureStays};

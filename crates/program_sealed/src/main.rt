@@ -15,6 +15,8 @@
 //
 // What the word says, what is run, the line, the sentences, the status and what is kept are promised by the functions below, and
 // by the crates guard_extract, image_run, statuses and image_halted.
+#![tactic(auto)]
+
 ghost use Rattle.std.specs.Prelude.{◌+◌, ◌≤◌, ◌≡◌, length, take};
 ghost use Rattle.io.specs.Counts.{IsPrefixLen};
 ghost use Rattle.manual.specs.Stepping.{full_memory};

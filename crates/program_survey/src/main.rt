@@ -14,6 +14,8 @@
 // that is not 0; every one that can be read is looked at.
 //
 // What the line and the sentence say is promised by line.rt and the crates tape_loading and tape_rescuing, and the status by the functions below.
+#![tactic(auto)]
+
 ghost use Rattle.std.specs.Prelude.{◌≡◌, take};
 ghost use Rattle.statuses.specs.Statuses.{first_of};
 ghost use Rattle.console.specs.Failing.{FailureStays};

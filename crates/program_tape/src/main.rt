@@ -13,6 +13,8 @@
 // 64 wrong usage, 66 it cannot be opened, 74 reading or writing failed.
 //
 // What is written and what is said are promised by the crates tape_moving and tape_loading; the status is promised by console_tapes.
+#![tactic(auto)]
+
 use console::{hand_over, names_from, refuse};
 use console_tapes::move_argument;
 use tape_loading::Format;

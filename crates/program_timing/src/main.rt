@@ -13,6 +13,8 @@
 // 74 reading or writing failed.
 //
 // What the lines, the sentence and the status say is promised by the crates trace_steps, console_showing and statuses.
+#![tactic(auto)]
+
 ghost use Rattle.std.specs.Prelude.{◌≤◌};
 
 use console::{address_argument, argument_is, count_argument, hand_over, names_from, refuse};

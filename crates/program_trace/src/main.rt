@@ -13,6 +13,8 @@
 //
 // What the lines, the sentence and the status say is promised by the crates trace_steps, console_showing and statuses; that check accepts
 // the lines is the theorem `trace_accepted`.
+#![tactic(auto)]
+
 use console::{count_argument, hand_over, names_from, refuse};
 use console_showing::show_input;
 use statuses::Goal;

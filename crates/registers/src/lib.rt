@@ -1,4 +1,6 @@
 // The registers of the NMOS 6502, after registers.rs.
+#![tactic(auto)]
+
 ghost use Rattle.std.specs.Prelude.{◌≡◌, ◌≤◌};
 ghost use Rattle.registers.specs.State.{status_of, registers_of, set_a, set_x, set_y, set_s, set_pc, set_status, set_nz, set_v, set_d, set_i, set_c, up, down};
 ghost use Rattle.registers.specs.StatusByte.{bit, status_byte, pushed_byte, served_byte, pulled_status};

@@ -5,6 +5,8 @@
 // the opcode and the state before, the bytes of memory before, the answer and the state after, and the bytes that the step
 // stored. Numbers are in capital hexadecimal, the cycles in decimal; a byte that has no cell in the first list is 00. Of the
 // levels, LV, bit 0 is set if NMI is low, bit 1 if IRQ is, and bit 2 if NMI was low at the last step that was made.
+#![tactic(auto)]
+
 ghost use Rattle.std.specs.Prelude.{◌≡◌, ◌<◌, length, set};
 ghost use Rattle.replay_list.specs.Lines.{spaced_byte_at, state_at, cell_at, loaded_from, most_cells, bar_at, line_after};
 

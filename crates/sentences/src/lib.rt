@@ -1,4 +1,6 @@
 // How a run ended, as text: its line, and a sentence.
+#![tactic(auto)]
+
 mod line; // line.rt: the line
 mod sentence; // sentence.rt: the sentence
 

@@ -1,5 +1,7 @@
 // The instructions that use the stack: subroutines, interrupts, pushes and pulls, after execute_instruction of cpu.rs; and the
 // service of a line.
+#![tactic(auto)]
+
 mod bytes; // bytes.rt: a byte and an address on the stack
 
 ghost use Rattle.std.specs.Prelude.{◌≡◌, ◌+◌, ◌<◌, length};

@@ -1,4 +1,6 @@
 // The exit status of a program: what it was asked for, whether that is done, and the number that says so.
+#![tactic(auto)]
+
 ghost use Rattle.std.specs.Prelude.{◌+◌, ◌≤◌, ◌≡◌};
 ghost use Rattle.text_writing.specs.Written.{Wrote};
 ghost use Rattle.statuses.specs.Statuses.{reached as Statuses·reached, end_status, check_status, rescue_status, log_status, first_of, status_line, longest_status};

@@ -1,4 +1,6 @@
 // The records of Intel HEX, types 00 and 01.
+#![tactic(auto)]
+
 ghost use Rattle.std.specs.Prelude.{◌≡◌};
 ghost use Rattle.tape_records.specs.Inner.Items.{told};
 ghost use Rattle.tape_intel.specs.IntelHex.{hex_item};

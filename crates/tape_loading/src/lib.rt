@@ -1,4 +1,6 @@
 // A text of records read onto a lent memory.
+#![tactic(auto)]
+
 ghost use Rattle.std.specs.Prelude.{◌≤◌, ◌≡◌};
 ghost use Rattle.tape_records.specs.Contents.{laid, outcome, read_onto};
 ghost use Rattle.tape_records.specs.Inner.Items.{told};

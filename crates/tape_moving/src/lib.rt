@@ -1,4 +1,6 @@
 // From paper tape to Intel HEX and back, record for record.
+#![tactic(auto)]
+
 ghost use Rattle.std.specs.Prelude.{◌≡◌, ◌+◌, ◌*◌, ◌<◌, ◌≤◌, length, take, drop};
 ghost use Rattle.text_writing.specs.Written.{Wrote};
 ghost use Rattle.tape_loading.specs.Inner.Formats.{contents_of};

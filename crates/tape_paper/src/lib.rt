@@ -1,4 +1,6 @@
 // The records of the KIM-1's paper tape.
+#![tactic(auto)]
+
 ghost use Rattle.std.specs.Prelude.{◌+◌, ◌≡◌, [], ◌++◌, length};
 ghost use Rattle.text_writing.specs.Written.{Wrote};
 ghost use Rattle.tape_records.specs.Inner.Items.{told};

@@ -1,4 +1,6 @@
 // A stretch of memory punched as a paper tape.
+#![tactic(auto)]
+
 ghost use Rattle.std.specs.Prelude.{◌≡◌, ◌+◌, ◌-◌, ◌%◌, ◌<◌, ◌≤◌, min, ◌++◌, length};
 ghost use Rattle.std.proofs.Math.Seq.{slice};
 ghost use Rattle.text_writing.specs.Written.{Wrote};

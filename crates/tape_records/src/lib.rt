@@ -1,4 +1,6 @@
 // Records of a paper tape and of Intel HEX, as far as they are alike: a mark, then bytes of two capital hexadecimal digits.
+#![tactic(auto)]
+
 ghost use Rattle.std.specs.Prelude.{◌≡◌, drop};
 ghost use Rattle.tape_records.specs.Records.{bytes_of, record_of, separator};
 ghost use Rattle.tape_records.specs.Inner.Gaps.{gap_end};

@@ -1,4 +1,6 @@
 // What can be saved of a torn tape.
+#![tactic(auto)]
+
 ghost use Rattle.std.specs.Prelude.{◌+◌, ◌*◌, ◌≤◌, ◌<◌, ◌≡◌, ◌++◌, cond, eqb, length, take};
 ghost use Rattle.text_writing.specs.Written.{Wrote};
 ghost use Rattle.tape_records.specs.Records.{record_of};

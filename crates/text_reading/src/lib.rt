@@ -2,6 +2,8 @@
 //
 // Every reader is handed a text and a place in it, and answers what it read and the next place. If the text has
 // something else that place is NOWHERE, at which every reader fails again: a caller tests for it once, at the end.
+#![tactic(auto)]
+
 ghost use Rattle.std.specs.Prelude.{◌≡◌, ◌≤◌, ◌<◌, drop};
 ghost use Rattle.text_reading.specs.Numbers.{digit_value, digit_at, byte_at, word_at, count_at, mark_at, whole_word, whole_count};
 

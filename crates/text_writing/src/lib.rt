@@ -1,6 +1,8 @@
 // Text written into a lent buffer. Every writer is told where to begin and answers where its text ends; what does not
 // fit is dropped, and the answer is the same. So none needs room, and the length of a text is what it answers on any
 // buffer. If a text ends past the largest usize, the answer is that.
+#![tactic(auto)]
+
 ghost use Rattle.std.specs.Prelude.{◌≡◌, [], ◌∷◌, ◌<◌};
 ghost use Rattle.text_writing.specs.Written.{Wrote};
 ghost use Rattle.text_writing.specs.Numerals.{digit as Numerals·digit, hex2, hex4, decimal, spaced};

@@ -1,5 +1,7 @@
 // Checks a recorded trace: entries that each spell a state, of which every later one is to be the state after one step
 // from the entry before, with idle lines.
+#![tactic(auto)]
+
 ghost use Rattle.std.specs.Prelude.{◌≡◌, ◌≤◌, ◌<◌, length};
 ghost use Rattle.trace_checking.specs.Inner.Cutting.{whole_end};
 ghost use Rattle.trace_checking.specs.Checking.{part_of, checked_of, accepted, checked_part, closed, checked_trace};

@@ -1,4 +1,6 @@
 // A machine as text: the last seven fields of the report's line.
+#![tactic(auto)]
+
 ghost use Rattle.text_writing.specs.Written.{Wrote};
 ghost use Rattle.trace_fields.specs.Fields.{register_fields, machine_fields};
 

@@ -4,6 +4,8 @@
 //
 // The cycles are decimal without leading zeros, the others capital hexadecimal, the status as PHP pushes it; one space
 // stands between two fields. A line that is spelled in any other way is malformed.
+#![tactic(auto)]
+
 ghost use Rattle.std.specs.Prelude.{◌+◌, ◌≤◌, ◌≡◌, drop};
 ghost use Rattle.text_writing.specs.Written.{Wrote};
 ghost use Rattle.trace_line.specs.Lines.{line_text, longest_line};

@@ -1,4 +1,6 @@
 // The steps of a run with idle lines, and what is shown of each: the entries of a trace, or of a timetable.
+#![tactic(auto)]
+
 ghost use Rattle.std.specs.Prelude.{◌+◌, ◌*◌, ◌≤◌, ◌≡◌, length};
 ghost use Rattle.manual.specs.Micro.{Gives};
 ghost use Rattle.manual.specs.Interrupts.{idle};

@@ -1,4 +1,6 @@
 // The text of a trace: the entry of a step, and the sentence about a trace that was checked.
+#![tactic(auto)]
+
 mod entry; // entry.rt: the entry
 mod finding; // finding.rt: the sentence
 
