@@ -15,6 +15,7 @@ pub mod number; // number.rt: the numbers
 
 // The operation of a number, of those that can store; NOP for any other number. It stands by itself, because the rows that
 // store ask for these alone.
+#[tactic(auto, unfolding(crate::specs::Inner::Storing::storing_at, crate::specs::Inner::Operations::operation_at, crate::specs::Inner::Operations::operations))]
 pub fn storing_at(number: u8) -> Instruction
     ensures { result ≡ storing_at number }
 {
@@ -37,6 +38,7 @@ pub fn storing_at(number: u8) -> Instruction
 }
 
 // The operation of a number; NOP for a number that stands for none.
+#[tactic(auto, unfolding(crate::specs::Inner::Operations::operation_at, crate::specs::Inner::Operations::operations))]
 pub fn operation_at(number: u8) -> Instruction
     ensures { result ≡ operation_at number }
 {
@@ -89,6 +91,7 @@ pub fn operation_at(number: u8) -> Instruction
 }
 
 // The addressing mode of a number; implied for a number that stands for none.
+#[tactic(auto, unfolding(crate::specs::Inner::Operations::mode_at, crate::specs::Inner::Operations::modes))]
 pub fn mode_at(number: u8) -> AddressingMode
     ensures { result ≡ mode_at number }
 {
