@@ -20,7 +20,7 @@ use stack::serve;
 use std::num::{wrapping_add_u64, wrapping_sub_u64};
 
 // What a turn leaves: the answer of its steps, and the first address of the last of them.
-#[derive(Drop)]
+#[derive(Clone, Copy)]
 pub struct Travelled {
     pub ended: Ended,
     pub first: u16,

@@ -10,7 +10,7 @@ use cpu::single_step;
 use manual::{Lines, Machine, Reason, Stepped};
 
 // What a step on a record answers: the reason, and the first address on the bus. The machine is in the record.
-#[derive(Drop)]
+#[derive(Clone, Copy)]
 pub struct StepAnswer {
     pub reason: Reason,
     pub first: u16,

@@ -5,7 +5,7 @@ ghost use Rattle.footprint.specs.Places.{footprint_of};
 use memory::Address;
 
 // The first `count` of the places; after them stand zeros.
-#[derive(Drop)]
+#[derive(Clone, Copy)]
 pub struct Footprint {
     pub count: usize,
     pub places: [u16; 5],

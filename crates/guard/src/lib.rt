@@ -24,7 +24,7 @@ use std::num::{wrapping_add_u64, wrapping_sub_u64};
 pub mod extract; // extract.rt: a run whose memory may be handed out whole
 
 // What the next step would touch, the steps that were made before it, and the machine after them.
-#[derive(Drop)]
+#[derive(Clone, Copy)]
 pub struct Halt {
     pub touch: Touch,
     pub steps: u64,
@@ -32,7 +32,7 @@ pub struct Halt {
 }
 
 // What a guarded run answers: the run's own answer, if no step touched a guarded byte, or where it was halted.
-#[derive(Drop)]
+#[derive(Clone, Copy)]
 pub enum Guarded {
     Ran(Ended),
     Halted(Halt),

@@ -7,7 +7,7 @@ use guard_maps::put_in;
 use text_reading::{NOWHERE, read_mark, read_word};
 
 // A stretch that stands at a place of a word, and the place after it: NOWHERE if none stands there.
-#[derive(Drop)]
+#[derive(Clone, Copy)]
 pub struct Stretch {
     pub first: u16,
     pub last: u16,
@@ -16,7 +16,7 @@ pub struct Stretch {
 
 // How a word is spelled: all of it is stretches, or the place of the first thing that is none, or that runs backwards, or that
 // holds FFFC or FFFD, where a run finds its start.
-#[derive(Drop)]
+#[derive(Clone, Copy)]
 pub enum Spelled {
     Well,
     Otherwise(usize),

@@ -22,7 +22,7 @@ pub fn empty_map() -> [u8; MAP_SIZE]
 }
 
 // A guarded address that a step would read, or store to.
-#[derive(Drop)]
+#[derive(Clone, Copy)]
 pub enum Touch {
     Read(u16),
     Store(u16),
@@ -51,14 +51,14 @@ impl Touch {
 }
 
 // What the next step would touch.
-#[derive(Drop)]
+#[derive(Clone, Copy)]
 pub enum Ahead {
     Nothing,
     Touches(Touch),
 }
 
 // An address that a map has, or none.
-#[derive(Drop)]
+#[derive(Clone, Copy)]
 pub enum Found {
     Nothing,
     At(u16),

@@ -12,14 +12,14 @@ use statuses::Goal;
 use trace_line::{Line, put_line, read_state};
 
 // Where a run begins: as the image's own program does, or from the state of a run that was halted.
-#[derive(Drop)]
+#[derive(Clone, Copy)]
 pub enum Start {
     Image,
     From(Machine),
 }
 
 // What a file is: where its run begins, and how many of its bytes are the memory.
-#[derive(Drop)]
+#[derive(Clone, Copy)]
 pub struct Opened {
     pub start: Start,
     pub size: usize,

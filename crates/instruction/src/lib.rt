@@ -5,7 +5,7 @@ ghost use Rattle.std.specs.Prelude.{◌≤◌, ◌≡◌};
 ghost use Rattle.instruction.specs.Modes.{operand_bytes};
 
 // Reads a byte: an operand of the arithmetic unit, or what a register is loaded or compared with.
-#[derive(Drop)]
+#[derive(Clone, Copy)]
 pub enum ReadOperation {
     ADC,
     AND,
@@ -22,7 +22,7 @@ pub enum ReadOperation {
 }
 
 // Stores a register.
-#[derive(Drop)]
+#[derive(Clone, Copy)]
 pub enum StoreOperation {
     STA,
     STX,
@@ -30,7 +30,7 @@ pub enum StoreOperation {
 }
 
 // Reads a byte and stores it changed, or changes the accumulator.
-#[derive(Drop)]
+#[derive(Clone, Copy)]
 pub enum ModifyOperation {
     ASL,
     DEC,
@@ -40,7 +40,7 @@ pub enum ModifyOperation {
     ROR,
 }
 
-#[derive(Drop)]
+#[derive(Clone, Copy)]
 pub enum BranchOperation {
     BCC,
     BCS,
@@ -53,7 +53,7 @@ pub enum BranchOperation {
 }
 
 // Works on registers and flags alone.
-#[derive(Drop)]
+#[derive(Clone, Copy)]
 pub enum InternalOperation {
     CLC,
     CLD,
@@ -76,7 +76,7 @@ pub enum InternalOperation {
 }
 
 // The 56 operations, by class.
-#[derive(Drop)]
+#[derive(Clone, Copy)]
 pub enum Instruction {
     Read(ReadOperation),
     Store(StoreOperation),
@@ -94,7 +94,7 @@ pub enum Instruction {
     RTS,
 }
 
-#[derive(Drop)]
+#[derive(Clone, Copy)]
 pub enum AddressingMode {
     Accumulator,
     Implied,
@@ -136,14 +136,14 @@ impl AddressingMode {
 }
 
 // One row of the opcode table.
-#[derive(Drop)]
+#[derive(Clone, Copy)]
 pub struct Entry {
     pub instruction: Instruction,
     pub mode: AddressingMode,
     pub cycles: u8,
 }
 
-#[derive(Drop)]
+#[derive(Clone, Copy)]
 pub enum Decoded {
     Defined(Entry),
     Undefined,

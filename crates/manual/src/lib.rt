@@ -24,7 +24,7 @@ pub const IRQ_VECTOR: u16 = 0xFFFE;
 pub const SERVING_CYCLES: u64 = 7;
 
 // What a step changes besides memory: the registers, the cycle count, and the last level of NMI, true if it was high.
-#[derive(Drop)]
+#[derive(Clone, Copy)]
 pub struct Machine {
     pub registers: Registers,
     pub cycles: u64,
@@ -32,14 +32,14 @@ pub struct Machine {
 }
 
 // The present levels of the interrupt lines, true if one is high. They hold for a whole step or run.
-#[derive(Drop)]
+#[derive(Clone, Copy)]
 pub struct Lines {
     pub irq: bool,
     pub nmi: bool,
 }
 
 // What is due before an opcode: a line is served through its vector, or none is.
-#[derive(Drop)]
+#[derive(Clone, Copy)]
 pub enum Due {
     Through(u16),
     Quiet,
@@ -47,7 +47,7 @@ pub enum Due {
 
 // Where an addressing mode leads; whether that is another page than the one it was counted from, the page of an indexed
 // base, or of the counter past a branch; and the first address on the bus, before a carry reaches the high byte.
-#[derive(Drop)]
+#[derive(Clone, Copy)]
 pub struct Target {
     pub address: u16,
     pub crossed: bool,
@@ -55,7 +55,7 @@ pub struct Target {
 }
 
 // What ADC and SBC give, as in lib.rs; N and Z are those of the result.
-#[derive(Drop)]
+#[derive(Clone, Copy)]
 pub struct ArithmeticOutput {
     pub result: u8,
     pub carry: bool,
@@ -63,14 +63,14 @@ pub struct ArithmeticOutput {
 }
 
 // One decimal digit of a sum or difference, and whether it carries into the next one or borrows from it.
-#[derive(Drop)]
+#[derive(Clone, Copy)]
 pub struct Digit {
     pub value: u8,
     pub over: bool,
 }
 
 // What an instruction leaves: the registers, the cycles beyond its base, and its first address on the bus.
-#[derive(Drop)]
+#[derive(Clone, Copy)]
 pub struct Effect {
     pub registers: Registers,
     pub extra: u8,
@@ -78,7 +78,7 @@ pub struct Effect {
 }
 
 // Why a step or a run ended: every step that was asked for was made, or the refusal that stopped it.
-#[derive(Drop)]
+#[derive(Clone, Copy)]
 pub enum Reason {
     Made,
     MemoryNotFull,
@@ -89,7 +89,7 @@ pub enum Reason {
 
 // What a step answers, its first address on the bus, and the machine that it leaves: in a refusal 0000, and the one
 // that was given.
-#[derive(Drop)]
+#[derive(Clone, Copy)]
 pub struct Stepped {
     pub reason: Reason,
     pub first: u16,
@@ -97,7 +97,7 @@ pub struct Stepped {
 }
 
 // What a run answers, the steps that it made, and the machine after them.
-#[derive(Drop)]
+#[derive(Clone, Copy)]
 pub struct Ended {
     pub reason: Reason,
     pub steps: u64,

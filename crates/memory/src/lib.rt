@@ -6,11 +6,11 @@ ghost use Rattle.manual.specs.Words.{low_byte, address_of, page, joined};
 ghost use Rattle.manual.specs.Stepping.{full_memory};
 
 // An address in the zero page is one byte, and reaches memory only through its page.
-#[derive(Drop)]
+#[derive(Clone, Copy)]
 pub struct ZeroPage(pub u8);
 
 // Any address.
-#[derive(Drop)]
+#[derive(Clone, Copy)]
 pub struct Address(pub u16);
 
 // The address of a byte in a page: the one place where the two are joined.

@@ -18,7 +18,7 @@ pub use storing::stores;
 pub const STEP: u64 = 0x1000_0000;
 
 // What an opcode's instruction leaves: the registers, what it takes off the clock, and its first address on the bus.
-#[derive(Drop)]
+#[derive(Clone, Copy)]
 pub struct Performed {
     pub registers: Registers,
     pub ticks: u64,
@@ -26,7 +26,7 @@ pub struct Performed {
 }
 
 // The same with a byte that is still to be added or subtracted.
-#[derive(Drop)]
+#[derive(Clone, Copy)]
 pub struct Pending {
     pub registers: Registers,
     pub ticks: u64,
@@ -36,7 +36,7 @@ pub struct Pending {
 
 // What a row gives. ADC and SBC are finished behind the rows, once for all their modes: so a row stays small, and the compiler
 // puts it into the loop.
-#[derive(Drop)]
+#[derive(Clone, Copy)]
 pub enum Row {
     Whole(Performed),
     Adding(Pending),
@@ -45,7 +45,7 @@ pub enum Row {
 }
 
 // What an opcode does, or that it is not documented.
-#[derive(Drop)]
+#[derive(Clone, Copy)]
 pub enum Dispatched {
     Performed(Performed),
     NotAnOpcode,

@@ -70,7 +70,7 @@ const CYCLES: [u8; 256] = *b"\
     \x02\x05\x00\x00\x00\x04\x06\x00\x02\x04\x00\x00\x00\x04\x07\x00";
 
 // The three arrays.
-#[derive(Drop)]
+#[derive(Clone, Copy)]
 pub(crate) struct OpcodeTable {
     pub(crate) operations: [u8; 256],
     pub(crate) modes: [u8; 256],

@@ -6,7 +6,7 @@ ghost use Rattle.registers.specs.State.{status_of, registers_of, set_a, set_x, s
 ghost use Rattle.registers.specs.StatusByte.{bit, status_byte, pushed_byte, served_byte, pulled_status};
 
 // The processor status: the six flags N V D I Z C.
-#[derive(Drop)]
+#[derive(Clone, Copy)]
 pub struct Status {
     pub negative: bool,
     pub overflow: bool,
@@ -17,10 +17,10 @@ pub struct Status {
 }
 
 // The low byte of the stack's next free address; its page is 01.
-#[derive(Drop)]
+#[derive(Clone, Copy)]
 pub struct StackPointer(pub u8);
 
-#[derive(Drop)]
+#[derive(Clone, Copy)]
 pub struct Registers {
     pub accumulator: u8,
     pub x: u8,

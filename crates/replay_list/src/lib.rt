@@ -14,7 +14,7 @@ use text_reading::{Byte, NOWHERE, read_byte, read_count, read_mark, read_word};
 
 // A state as a text line has it, and where the text goes on. Its number is the opcode before a step, and the answer after it; the
 // status is as PHP pushes it.
-#[derive(Drop)]
+#[derive(Clone, Copy)]
 pub struct State {
     pub number: u8,
     pub levels: u8,
@@ -29,7 +29,7 @@ pub struct State {
 }
 
 // A cell of a list, a byte with its address, and where the text goes on.
-#[derive(Drop)]
+#[derive(Clone, Copy)]
 struct Cell {
     byte: u8,
     address: u16,

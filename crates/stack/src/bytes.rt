@@ -17,7 +17,7 @@ pub(crate) fn push_on_stack(registers: Registers, memory: &mut [u8], byte: u8) -
     registers.with_stack(stack.decrement())
 }
 
-#[derive(Drop)]
+#[derive(Clone, Copy)]
 pub(crate) struct Pulled {
     pub byte: u8,
     pub registers: Registers,
@@ -45,7 +45,7 @@ pub(crate) fn push_address(registers: Registers, memory: &mut [u8], at: Address)
     push_on_stack(after, memory, at.low())
 }
 
-#[derive(Drop)]
+#[derive(Clone, Copy)]
 pub(crate) struct PulledAddress {
     pub at: Address,
     pub registers: Registers,

@@ -21,7 +21,7 @@ pub const NOT_OPENED: u8 = 66;
 pub const FAILED: u8 = 74;
 
 // Where a run is meant to end: nowhere that is named, at an address, or once all its steps are made.
-#[derive(Drop)]
+#[derive(Clone, Copy)]
 pub enum Goal {
     Unnamed,
     At(u16),

@@ -21,7 +21,7 @@ mod sentence; // sentence.rt: what a reader found, in words
 pub use sentence::{LONGEST_SENTENCE, put_sentence};
 
 // The formats: MOS paper tape, and Intel HEX.
-#[derive(Drop)]
+#[derive(Clone, Copy)]
 pub enum Format {
     Tape,
     Hex,
@@ -29,7 +29,7 @@ pub enum Format {
 
 // What a text was found to be: the answer, how many good records stand before the first bad one, and where that begins, the
 // text's length if there is none.
-#[derive(Drop)]
+#[derive(Clone, Copy)]
 pub struct Verdict {
     pub answer: u8,
     pub good: u64,
@@ -37,7 +37,7 @@ pub struct Verdict {
 }
 
 // What comes next in a text: a data record, with the place of its data and that at which the text goes on, or none.
-#[derive(Drop)]
+#[derive(Clone, Copy)]
 pub enum Next {
     Data {
         address: u16,

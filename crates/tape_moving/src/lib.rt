@@ -17,7 +17,7 @@ use text_writing::{put_byte, put_hex2, put_hex4, put_text};
 
 // What the given text was found to be, and the length of the new one at the start of the buffer. The verdict has the answer
 // 10 if the given text is good and the buffer is too short.
-#[derive(Drop)]
+#[derive(Clone, Copy)]
 pub struct Moved {
     pub verdict: Verdict,
     pub size: usize,

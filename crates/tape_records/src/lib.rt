@@ -11,14 +11,14 @@ use text_reading::{NOWHERE, read_byte, read_mark, read_word};
 use text_writing::put_byte;
 
 // The sum of some bytes, which goes round at 65,536, and where the text goes on.
-#[derive(Drop)]
+#[derive(Clone, Copy)]
 pub struct Sum {
     pub value: u16,
     pub next: usize,
 }
 
 // A record's numbers. The sum is that of all bytes but the last two, and these are `last`, as one number.
-#[derive(Drop)]
+#[derive(Clone, Copy)]
 pub struct Parts {
     pub count: u8,
     pub address: u16,
@@ -26,14 +26,14 @@ pub struct Parts {
     pub last: u16,
 }
 
-#[derive(Drop)]
+#[derive(Clone, Copy)]
 pub enum Found {
     Record(Parts),
     Malformed,
 }
 
 // What stands where a record has to begin; a bad one has its reason.
-#[derive(Drop)]
+#[derive(Clone, Copy)]
 pub enum Item {
     Data { address: u16, count: u8 },
     End,

@@ -21,7 +21,7 @@ pub use sentence::{LONGEST_SENTENCE, put_sentence};
 
 // The answer, the length of the text at the start of the buffer, how many records were kept and dropped, and where the
 // first dropped one began.
-#[derive(Drop)]
+#[derive(Clone, Copy)]
 pub struct Rescued {
     pub answer: u8,
     pub size: usize,
@@ -31,7 +31,7 @@ pub struct Rescued {
 }
 
 // The same before the answer is known.
-#[derive(Drop)]
+#[derive(Clone, Copy)]
 struct Pass {
     size: usize,
     kept: u64,

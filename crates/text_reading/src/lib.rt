@@ -11,21 +11,21 @@ ghost use Rattle.text_reading.specs.Numbers.{digit_value, digit_at, byte_at, wor
 pub const NOWHERE: usize = 18446744073709551615;
 
 // A byte that was read, and where the text goes on.
-#[derive(Drop)]
+#[derive(Clone, Copy)]
 pub struct Byte {
     pub value: u8,
     pub next: usize,
 }
 
 // The same for 16 bits.
-#[derive(Drop)]
+#[derive(Clone, Copy)]
 pub struct Word {
     pub value: u16,
     pub next: usize,
 }
 
 // The same for 64 bits.
-#[derive(Drop)]
+#[derive(Clone, Copy)]
 pub struct Count {
     pub value: u64,
     pub next: usize,

@@ -8,7 +8,7 @@ ghost use Rattle.text_writing.specs.Written.{Wrote};
 ghost use Rattle.text_writing.specs.Numerals.{digit as Numerals·digit, hex2, hex4, decimal, spaced};
 
 // The answer of a function that delivers a text into a lent buffer, and the length of the text at the buffer's start.
-#[derive(Drop)]
+#[derive(Clone, Copy)]
 pub struct Delivery {
     pub answer: u8,
     pub size: usize,

@@ -12,7 +12,7 @@ use trace_line::{Line, read_state};
 use trace_step::follow;
 
 // The last accepted entry: none yet, or the state that it spelled.
-#[derive(Drop)]
+#[derive(Clone, Copy)]
 pub enum Last {
     Start,
     After(Machine),
@@ -20,7 +20,7 @@ pub enum Last {
 
 // What a part of a trace shows: 0 if all its entries are accepted, and otherwise why the entry after the accepted ones is
 // bad; how many were accepted in it, and the last one.
-#[derive(Drop)]
+#[derive(Clone, Copy)]
 pub struct Part {
     pub answer: u8,
     pub lines: usize,
@@ -29,7 +29,7 @@ pub struct Part {
 
 // 0 if the trace is accepted; else why not, and which entry is the first bad one, counted from 1. `line` is 0 if
 // none is bad: on 0, and on 1.
-#[derive(Drop)]
+#[derive(Clone, Copy)]
 pub struct Checked {
     pub answer: u8,
     pub line: usize,

@@ -18,7 +18,7 @@ use text_writing::put_byte;
 use trace_fields::put_machine;
 
 // The seven numbers of a line, and where the text goes on.
-#[derive(Drop)]
+#[derive(Clone, Copy)]
 struct Fields {
     cycles: u64,
     counter: u16,
@@ -31,13 +31,13 @@ struct Fields {
 }
 
 // The state that a line spells, and where the text goes on.
-#[derive(Drop)]
+#[derive(Clone, Copy)]
 pub struct Spelled {
     pub machine: Machine,
     pub next: usize,
 }
 
-#[derive(Drop)]
+#[derive(Clone, Copy)]
 pub enum Line {
     State(Spelled),
     Malformed,

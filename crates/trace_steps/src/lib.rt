@@ -15,14 +15,14 @@ use manual::{Ended, FULL_MEMORY, Lines, Machine, Reason, Stepped};
 use trace_text::{View, put_entry};
 
 // What a step answers, and where its entry ends.
-#[derive(Drop)]
+#[derive(Clone, Copy)]
 struct ShownStep {
     stepped: Stepped,
     next: usize,
 }
 
 // How the run ended, and how long its entries are.
-#[derive(Drop)]
+#[derive(Clone, Copy)]
 pub struct Shown {
     pub ended: Ended,
     pub size: usize,

@@ -8,7 +8,7 @@ pub use entry::put_entry;
 pub use finding::{LONGEST_FINDING, LONGEST_VERDICT, put_finding, put_verdict};
 
 // What is shown of a run: the states, from the one that it starts with, or the steps and their cycles.
-#[derive(Drop)]
+#[derive(Clone, Copy)]
 pub enum View {
     States,
     Steps,
