@@ -1,0 +1,7 @@
+-- The accumulator is loaded with the result.
+use Rattle.manual.specs.Instructions.{applied}
+use Rattle.alu.proofs.read.and.Goals as goal
+
+pub returns : goal.returns
+unfolding applied
+returns c = c.load_accumulator.ensures

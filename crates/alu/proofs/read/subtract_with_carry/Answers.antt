@@ -1,0 +1,7 @@
+-- The difference, as SBC leaves it.
+use Rattle.manual.specs.Instructions.{applied}
+use Rattle.alu.proofs.read.subtract_with_carry.Goals as goal
+
+pub returns : goal.returns
+unfolding applied
+returns c = rw (c.with_output.ensures, c.difference.ensures)
