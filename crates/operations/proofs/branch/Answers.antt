@@ -9,9 +9,7 @@ use Rattle.manual.specs.Micro.{exec, Gives}
 use Rattle.manual.specs.Addressing.{target}
 use Rattle.manual.specs.Branching.{branched}
 use Rattle.manual.specs.Lemmas.InstructionLaws.{branch_gives}
-use borrow.Author.Rules.{rules}
-use Rattle.operations.proofs.branch.Statement.{statement}
-use Rattle.operations.proofs.branch.Tie as tie
+use Rattle.operations.proofs.branch.Goals as goal
 
 aimed : (mode : AddressingMode) (r : Registers) (m : List ℕ) → Gives (target mode r) m (exec (target mode r) m).0 m
 unfolding target
@@ -29,22 +27,14 @@ aimed BuggyIndirect r m = refl
 aimed IndexedIndirectX r m = refl
 aimed IndirectIndexedY r m = refl
 
-returns : tie.Need-returns
+pub returns-then-holds : goal.returns-then-holds
 unfolding branched
-returns c =
-    let c₃ = c.before.before.before in
-    let c₅ = c₃.before.before in
-    branch_gives _ _ _ _ c₃.target-of.ensures _
-    ∙ rw (sym c₅.holds.ensures ∙ c₃.before.if1.true, c.leaves.ensures, c.before.flag.ensures.0, c.before.before.with-counter.ensures, c₅.before.advanced.ensures)
+returns-then-holds c =
+    branch_gives _ _ _ _ c.target_of-target.ensures _
+    ∙ rw (sym c.holds.ensures ∙ c.if-holds.true, c.leaves.ensures, c.flag.ensures.value, c.with_counter.ensures, c.advanced-past.ensures)
 
-returns-2 : tie.Need-returns-2
+pub returns-else-holds : goal.returns-else-holds
 unfolding branched
-returns-2 c =
-    let c₂ = c.before.before in
+returns-else-holds c =
     branch_gives _ _ _ _ (aimed _ _ _) _
-    ∙ rw (sym c₂.holds.ensures ∙ c.before.if1.false, c.leaves2.ensures, c₂.before.advanced.ensures)
-
-pub branch-spec : {M : Type 1} → statement M
-branch-spec =
-    tie.close
-    (tie.spec (search rules) (search rules) (search rules) (search rules) (search rules) (search rules) (search rules) (search rules) returns returns-2)
+    ∙ rw (sym c.holds.ensures ∙ c.if-holds.false, c.leaves-else-holds.ensures, c.advanced-past.ensures)
