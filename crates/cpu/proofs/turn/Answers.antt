@@ -1,0 +1,22 @@
+-- The room is tested first. A line that is due is served; where none is, the loop makes the steps.
+use Rattle.std.proofs.Common.{sym, ◌∙◌}
+use Rattle.manual.specs.Theorems.Ranges.{vector_within}
+use Rattle.cpu.specs.Lemmas.Turning.{turn_late, turn_serves, turn_walks}
+use Rattle.cpu.proofs.turn.Goals as goal
+
+pub returns-then-start-gt-HIGHEST_COUNT : goal.returns-then-start-gt-HIGHEST_COUNT
+returns-then-start-gt-HIGHEST_COUNT c = turn_late _ _ _ _ c.requires.2.0 c.if-start-gt-HIGHEST_COUNT.true ∙ rw (c.new.ensures, c.new-left.ensures)
+
+pub serve_line-requires : goal.serve_line-requires
+serve_line-requires c =
+    (c.requires.0, vector_within c.args.lines c.args.start _ (sym c.due-waiting.ensures ∙ c.in-Through.is), c.if-start-gt-HIGHEST_COUNT.false)
+
+pub walk-requires : goal.walk-requires
+walk-requires c = (c.requires.0, c.requires.2.0, c.requires.2.1, c.requires.2.2 c.if-start-gt-HIGHEST_COUNT.false)
+
+pub returns-in-Through : goal.returns-in-Through
+returns-in-Through c =
+    turn_serves _ _ _ _ _ (sym c.due-waiting.ensures ∙ c.in-Through.is) c.if-start-gt-HIGHEST_COUNT.false ∙ c.serve_line.ensures
+
+pub returns-in-Quiet : goal.returns-in-Quiet
+returns-in-Quiet c = turn_walks _ _ _ (sym c.due-waiting.ensures ∙ c.in-Quiet.is) _ c.requires.1 ∙ c.walk.ensures
