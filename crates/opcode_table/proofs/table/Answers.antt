@@ -3,12 +3,8 @@ use mathlib.Core.Path.{refl}
 use Rattle.instruction.specs.Opcodes.{decoded, rows}
 use Rattle.opcode_table.specs.Theorems.Arrays.{is_table}
 use Rattle.opcode_numbers.specs.Inner.Operations.{operation_at, operations, mode_at, modes}
-use Rattle.opcode_table.proofs.table.Statement.{statement}
-use Rattle.opcode_table.proofs.table.Tie as tie
+use Rattle.opcode_table.proofs.table.Goals as goal
 
-returns : tie.Need-returns
+pub returns : goal.returns
 unfolding decoded rows operation_at operations mode_at modes
 returns c = is_table _ _ _ refl
-
-pub table-spec : {M : Type 1} → statement M
-table-spec = tie.close (tie.spec returns)
