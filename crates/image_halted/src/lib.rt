@@ -2,7 +2,7 @@
 #![tactic(auto)]
 
 ghost use Rattle.std.specs.Prelude.{◌+◌, ◌≤◌, ◌≡◌, length, take};
-ghost use Rattle.io.specs.Counts.{IsPrefixLen};
+ghost use Rattle.text_writing.specs.Counts.{IsPrefixLen};
 ghost use Rattle.manual.specs.Stepping.{full_memory};
 ghost use Rattle.image_halted.specs.Halted.{halted_run, is_halted, start_of, memory_of, after_file};
 ghost use Rattle.trace_line.specs.Lines.{longest_line};

@@ -29,6 +29,7 @@ pub enum Goal {
 }
 
 // Whether a run ended where it was meant to.
+#[tactic(auto, unfolding(crate::specs::Statuses::reached))]
 pub fn reached(goal: Goal, ended: Ended) -> bool
     ensures { result ≡ Statuses·reached goal ended }
 {
@@ -47,6 +48,7 @@ pub fn reached(goal: Goal, ended: Ended) -> bool
 }
 
 // The status of a run: 0 if it ended as it was meant to, and otherwise its answer number, or 20 for 0.
+#[tactic(auto, unfolding(crate::specs::Statuses::end_status))]
 pub fn end_status(goal: Goal, ended: Ended) -> u8
     ensures { result ≡ end_status goal ended }
 {

@@ -1,5 +1,5 @@
 -- There and back: a halted run opens to its state and its memory, only a halted run opens to a state, and an image opens to itself.
-use Rattle.std.specs.Prelude.{ℕ, ◌+◌, ◌≤◌, ◌≡◌, Bool, true, false, cond, List, [], ◌∷◌, ◌++◌, eqb, length, take, drop}
+use Rattle.std.specs.Prelude.{ℕ, ◌+◌, ◌≤◌, ◌≡◌, Bool, true, false, cond, List, [], ◌++◌, eqb, length, take, drop}
 use Rattle.std.proofs.Math.Path.{refl}
 use Rattle.std.proofs.Common.{ap, sym, ◌∙◌, subst, append-nil, arith, length-append, length-drop, drop_of_length-le, take-append-drop, take_at, drop_at, length-take-le, eqb-true}
 use Rattle.manual.specs.declared.Machine.{Machine}
@@ -11,9 +11,8 @@ use Rattle.trace_line.specs.declared.Spelled.{Spelled}
 use Rattle.trace_line.specs.Fields.{line_of, line_from}
 use Rattle.trace_line.specs.Lines.{Spellable, line_text}
 use Rattle.trace_line.specs.Theorems.Lines.{Written, written_read, read_written, line_length}
-use Rattle.image_halted.specs.declared.Start.{Start}
 use Rattle.image_halted.specs.declared.Start.TheVariants.{Image, From}
-use Rattle.image_halted.specs.Halted.{halted_run, state_in, start_by, start_of, memory_by, memory_of}
+use Rattle.image_halted.specs.Halted.{halted_run, state_in, start_by, start_of, memory_of}
 use Rattle.image_halted.specs.Lemmas.Opening.{opens, plain}
 
 -- ---- there

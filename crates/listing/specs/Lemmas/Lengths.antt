@@ -17,7 +17,6 @@ use Rattle.instruction.specs.declared.Decoded.{Decoded}
 use Rattle.instruction.specs.declared.Decoded.TheVariants.{Defined, Undefined}
 use Rattle.instruction.specs.Opcodes.{decoded}
 use Rattle.instruction.specs.Modes.{length_of}
-use Rattle.laws.specs.Characters.{characters}
 use Rattle.opcode_table.specs.Names.{mnemonic, name_of}
 use Rattle.listing_operands.specs.Operands.{written, operand}
 use Rattle.listing.specs.Lines.{Line, bytes_from, size, operand_of, line_of, unknown, lines, byte_fields, fields, text, texts, instruction_at, longest_instruction, per_byte}
@@ -27,13 +26,13 @@ use Rattle.listing.specs.Lemmas.Lines.{size_some, size_most}
 pub three_letters : (i : Instruction) → length (mnemonic i) ≡ 3
 unfolding mnemonic
 three_letters (Read o) =
-    elim o [ ADC ↦ refl | AND ↦ refl | BIT ↦ refl | CMP ↦ refl | CPX ↦ refl | CPY ↦ refl | EOR ↦ refl | LDA ↦ refl | LDX ↦ refl | LDY ↦ refl | ORA ↦ refl | SBC ↦ refl ]
-three_letters (Store o) = elim o [ STA ↦ refl | STX ↦ refl | STY ↦ refl ]
-three_letters (Modify o) = elim o [ ASL ↦ refl | DEC ↦ refl | INC ↦ refl | LSR ↦ refl | ROL ↦ refl | ROR ↦ refl ]
+    elim o as (λ k. length (mnemonic (Read k)) ≡ 3) [ ADC ↦ refl | AND ↦ refl | BIT ↦ refl | CMP ↦ refl | CPX ↦ refl | CPY ↦ refl | EOR ↦ refl | LDA ↦ refl | LDX ↦ refl | LDY ↦ refl | ORA ↦ refl | SBC ↦ refl ]
+three_letters (Store o) = elim o as (λ k. length (mnemonic (Store k)) ≡ 3) [ STA ↦ refl | STX ↦ refl | STY ↦ refl ]
+three_letters (Modify o) = elim o as (λ k. length (mnemonic (Modify k)) ≡ 3) [ ASL ↦ refl | DEC ↦ refl | INC ↦ refl | LSR ↦ refl | ROL ↦ refl | ROR ↦ refl ]
 three_letters (Branch o) =
-    elim o [ BCC ↦ refl | BCS ↦ refl | BEQ ↦ refl | BMI ↦ refl | BNE ↦ refl | BPL ↦ refl | BVC ↦ refl | BVS ↦ refl ]
+    elim o as (λ k. length (mnemonic (Branch k)) ≡ 3) [ BCC ↦ refl | BCS ↦ refl | BEQ ↦ refl | BMI ↦ refl | BNE ↦ refl | BPL ↦ refl | BVC ↦ refl | BVS ↦ refl ]
 three_letters (Internal o) =
-    elim o [ CLC ↦ refl | CLD ↦ refl | CLI ↦ refl | CLV ↦ refl | DEX ↦ refl | DEY ↦ refl | INX ↦ refl | INY ↦ refl | NOP ↦ refl | SEC ↦ refl | SED ↦ refl | SEI ↦ refl | TAX ↦ refl | TAY ↦ refl | TSX ↦ refl | TXA ↦ refl | TXS ↦ refl | TYA ↦ refl ]
+    elim o as (λ k. length (mnemonic (Internal k)) ≡ 3) [ CLC ↦ refl | CLD ↦ refl | CLI ↦ refl | CLV ↦ refl | DEX ↦ refl | DEY ↦ refl | INX ↦ refl | INY ↦ refl | NOP ↦ refl | SEC ↦ refl | SED ↦ refl | SEI ↦ refl | TAX ↦ refl | TAY ↦ refl | TSX ↦ refl | TXA ↦ refl | TXS ↦ refl | TYA ↦ refl ]
 three_letters BRK = refl
 three_letters JMP = refl
 three_letters JSR = refl

@@ -29,7 +29,7 @@ size_most Undefined = omega arith
 size_most (Defined e) = at_most e.mode
   where
     at_most : (mode : AddressingMode) → length_of mode ≤ 3
-    at_most mode = elim mode [ Accumulator ↦ omega arith | Implied ↦ omega arith | Immediate ↦ omega arith | ZeroPage ↦ omega arith | ZeroPageX ↦ omega arith | ZeroPageY ↦ omega arith | Relative ↦ omega arith | Absolute ↦ omega arith | AbsoluteX ↦ omega arith | AbsoluteY ↦ omega arith | BuggyIndirect ↦ omega arith | IndexedIndirectX ↦ omega arith | IndirectIndexedY ↦ omega arith ]
+    at_most mode = elim mode as (λ k. length_of k ≤ 3) [ Accumulator ↦ omega arith | Implied ↦ omega arith | Immediate ↦ omega arith | ZeroPage ↦ omega arith | ZeroPageX ↦ omega arith | ZeroPageY ↦ omega arith | Relative ↦ omega arith | Absolute ↦ omega arith | AbsoluteX ↦ omega arith | AbsoluteY ↦ omega arith | BuggyIndirect ↦ omega arith | IndexedIndirectX ↦ omega arith | IndirectIndexedY ↦ omega arith ]
 
 module _ (m : List ℕ) where
   same : {a b n k : ℕ} → a ≡ b → n ≡ k → lines m a n 0 ≡ lines m b k 0

@@ -25,7 +25,7 @@ module _ (byte word target : ℕ) where
 
   by_mode : (mode : AddressingMode) → filled byte word target (pattern_of mode) ≡ written mode (hex2 byte) (hex4 word) (hex4 target)
   unfolding pattern_of written
-  by_mode mode = elim mode [ Accumulator ↦ refl | Implied ↦ refl | Immediate ↦ refl | ZeroPage ↦ refl | ZeroPageX ↦ refl | ZeroPageY ↦ refl | Relative ↦ refl | Absolute ↦ refl | AbsoluteX ↦ refl | AbsoluteY ↦ refl | BuggyIndirect ↦ refl | IndexedIndirectX ↦ refl | IndirectIndexedY ↦ refl ]
+  by_mode mode = elim mode as (λ k. filled byte word target (pattern_of k) ≡ written k (hex2 byte) (hex4 word) (hex4 target)) [ Accumulator ↦ refl | Implied ↦ refl | Immediate ↦ refl | ZeroPage ↦ refl | ZeroPageX ↦ refl | ZeroPageY ↦ refl | Relative ↦ refl | Absolute ↦ refl | AbsoluteX ↦ refl | AbsoluteY ↦ refl | BuggyIndirect ↦ refl | IndexedIndirectX ↦ refl | IndirectIndexedY ↦ refl ]
 
 -- The pattern of a mode with its numbers, as the code finds them, is the operand.
 pub operand_filled : (mode : AddressingMode) (m : List ℕ) (at : ℕ) {p b q high w t : ℕ} {pattern : List ℕ}

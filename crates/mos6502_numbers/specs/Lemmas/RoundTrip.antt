@@ -1,13 +1,13 @@
 -- The registers of a number that was packed, and its level of NMI, are those that it was packed from.
 use Rattle.std.specs.Prelude.{ℕ, ◌+◌, ◌*◌, ◌/◌, ◌%◌, ◌^◌, ◌≤◌, ◌<◌, ◌≡◌, refl, Bool, false, eqb}
 use Rattle.std.proofs.Math.Path.{ap}
-use Rattle.std.proofs.Common.{sym, ◌∙◌, arith}
+use Rattle.std.proofs.Common.{◌∙◌, arith}
 use Rattle.std.proofs.Math.Bool.{true, not}
 use Rattle.registers.specs.declared.Registers.{Registers}
 use Rattle.registers.specs.declared.Status.{Status}
 use Rattle.registers.specs.State.{registers_of}
 use Rattle.registers.specs.InRange.{InRange}
-use Rattle.registers.specs.StatusByte.{bit, bit_at, pushed_byte, pulled_status}
+use Rattle.registers.specs.StatusByte.{bit, pushed_byte}
 use Rattle.registers.specs.Theorems.RoundTrip.{pulled_pushed, bit_most, pushed_byte_lem}
 use Rattle.mos6502_numbers.specs.Packed.{packed, unpacked, unpacked_nmi}
 

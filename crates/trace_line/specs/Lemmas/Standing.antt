@@ -1,6 +1,6 @@
 -- A text that stands at a place of another, and what the readers of `reading` make of it. Each reader has two laws: what stands there is
 -- read, and what was read stood there.
-use Rattle.std.specs.Prelude.{ℕ, suc, ◌+◌, ◌-◌, ◌*◌, ◌/◌, ◌%◌, ◌<◌, ◌≤◌, ◌≡◌, refl, Bool, true, false, cond, eqb, ltb, length, get_or, drop}
+use Rattle.std.specs.Prelude.{ℕ, suc, ◌+◌, ◌*◌, ◌/◌, ◌%◌, ◌<◌, ◌≤◌, ◌≡◌, refl, Bool, true, false, cond, eqb, ltb, length, get_or, drop}
 use Rattle.std.proofs.Common.{ap, sym, ◌∙◌, add-zero, add-one, length-append, drop-drop, drop_at, drop-cons, get_or-drop, lt-ltb, ltb-true, eq-eqb, eqb-true}
 use mathlib.Core.List.{List, [], ◌∷◌, ◌++◌, append_assoc}
 use native.Mathlib.Omega.{arith}
