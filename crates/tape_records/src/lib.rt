@@ -18,7 +18,7 @@ pub struct Sum {
 }
 
 // A record's numbers. The sum is that of all bytes but the last two, and these are `last`, as one number.
-#[derive(Drop)]
+#[derive(Clone, Copy)]
 pub struct Parts {
     pub count: u8,
     pub address: u16,
