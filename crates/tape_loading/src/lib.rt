@@ -21,7 +21,7 @@ mod sentence; // sentence.rt: what a reader found, in words
 pub use sentence::{LONGEST_SENTENCE, put_sentence};
 
 // The formats: MOS paper tape, and Intel HEX.
-#[derive(Drop)]
+#[derive(Clone, Copy)]
 pub enum Format {
     Tape,
     Hex,
