@@ -4,7 +4,7 @@ use Rattle.std.proofs.Math.Path.{ap}
 use Rattle.std.proofs.Common.{◌∙◌, arith}
 use Rattle.laws.specs.Answers.{not_refused}
 use Rattle.manual.specs.Stepping.{full_memory}
-use Rattle.tape_records.specs.Contents.{Stretch, Contents, Loaded, laid, read_onto}
+use Rattle.tape_records.specs.Contents.{Stretch, Contents, laid, read_onto}
 use Rattle.tape_records.specs.Grammar.{Text, Fits}
 use Rattle.tape_records.specs.Lemmas.Onto.{onto_good, onto_refused, good_text, read_whole}
 use Rattle.tape_records.specs.Lemmas.Laying.{Untouched, laid_untouched, laid_last}

@@ -34,7 +34,7 @@ pub record Stops (f : Format) (s : List ℕ) (at before : ℕ) (v : Verdict) : T
 
 -- a data record comes next, and then the text goes on
 pub record Comes (f : Format) (s : List ℕ) (at before w n digits after : ℕ) : Type 0 where
-  pub goes_on_lem : contents (item_of f) 0 before (drop at s)
+  pub goes_on : contents (item_of f) 0 before (drop at s)
       ≡ and_then (record { first = w; bytes = values_at n (drop digits s) 0 }) (contents (item_of f) 0 (before + 1) (drop after s))
   pub read : bytes_of n (drop digits s) ≡ some (values_at n (drop digits s) 0)
   pub marked : 0 < digits
@@ -108,7 +108,7 @@ module _ (f : Format) (s : List ℕ) (at before : ℕ) where
         rw digits (values (hexes r.bytes ++ its.rest) short (length r.bytes) 0 r.bytes spelled) in
         let after : place + (11 + 2 * length r.bytes) ≡ place + 11 + 2 * length r.bytes = omega arith in
         record {
-          goes_on_lem = skipped ∙ at_stretch (item_of f) s place before h starts r e ∙ rw (after, valued);
+          goes_on = skipped ∙ at_stretch (item_of f) s place before h starts r e ∙ rw (after, valued);
           read = rw (valued, digits) spelled;
           marked = omega arith;
           room = omega (arith, room, head_small f);

@@ -1,14 +1,14 @@
 -- A good text of either kind is read as what it is, and a text of neither kind is refused.
 use Rattle.std.specs.Prelude.{ℕ, suc, ◌+◌, ◌<◌, ◌≤◌, ◌≡◌, refl, Bool, true, false, cond, List, [], ◌∷◌, ◌++◌, eqb, length, get_or}
-use Rattle.std.proofs.Common.{ap, ◌∙◌, zero-add, arith, eq-eqb, ne_eqb}
-use Rattle.std.proofs.Math.Option.{Option, none}
+use Rattle.std.proofs.Common.{ap, ◌∙◌, arith, eq-eqb, ne_eqb}
+use Rattle.std.proofs.Math.Option.{none}
 use Rattle.laws.specs.Answers.{malformed_record}
-use Rattle.tape_records.specs.Records.{separator, only_separators, byte_of, counted, record_of}
-use Rattle.tape_records.specs.Contents.{Stretch, Item, Contents, judged, contents, Loaded, read_onto}
+use Rattle.tape_records.specs.Records.{separator, only_separators, record_of}
+use Rattle.tape_records.specs.Contents.{Stretch, Contents, judged, contents, read_onto}
 use Rattle.tape_records.specs.Grammar.{Gap, Text}
 use Rattle.tape_records.specs.Inner.Gaps.{gap_length, gap_end}
 use Rattle.tape_records.specs.Lemmas.Whole.{never}
-use Rattle.tape_paper.specs.Tapes.{judge, tape_item, tape_of, read_tape}
+use Rattle.tape_paper.specs.Tapes.{tape_item, tape_of, read_tape}
 use Rattle.tape_paper.specs.Grammar.{TapeData, TapeEnd}
 use Rattle.tape_intel.specs.IntelHex.{hex_of, read_hex}
 use Rattle.tape_intel.specs.Grammar.{HexData, HexEnd}

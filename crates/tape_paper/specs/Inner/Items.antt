@@ -2,7 +2,6 @@
 use Rattle.std.specs.Prelude.{ℕ, ◌+◌, cond, not, eqb, ltb}
 use Rattle.laws.specs.Answers.{wrong_sum, past_the_end, no_end}
 use Rattle.tape_records.specs.declared.Parts.{Parts}
-use Rattle.tape_records.specs.Records.{count, address, sum, last}
 use Rattle.tape_records.specs.declared.Item.{Item as Told}
 use Rattle.tape_records.specs.declared.Item.TheVariants.{Data, End, Bad}
 

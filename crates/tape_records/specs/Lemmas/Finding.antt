@@ -7,7 +7,7 @@ use Rattle.text_reading.specs.declared.Byte.{Byte}
 use Rattle.text_reading.specs.declared.Word.{Word}
 use Rattle.tape_records.specs.declared.Sum.{Sum}
 use Rattle.tape_records.specs.declared.Found.TheVariants.{Record, Malformed}
-use Rattle.tape_records.specs.Records.{byte_of, bytes_of, counted, record_of, word, total, count, address, sum, last}
+use Rattle.tape_records.specs.Records.{byte_of, bytes_of, counted, record_of, word, total}
 use Rattle.tape_records.specs.Inner.Reading.{summed, parts_of, found}
 use Rattle.tape_records.specs.Lemmas.Places.{past_byte, some_byte, no_byte, byte_at_lem, WordAt, word_at_lem, past_word, joined, bytes_split, bytes_length, next_byte, bytes_from_lem, bytes_to}
 

@@ -7,7 +7,7 @@ use Rattle.text_reading.specs.declared.Byte.{Byte}
 use Rattle.text_reading.specs.declared.Word.{Word}
 use Rattle.text_reading.specs.Numbers.{nowhere, digit_value, no_digit, digit_at, byte_at, word_at}
 use Rattle.tape_records.specs.Records.{byte_of, before, bytes_of, word, total}
-use Rattle.tape_records.specs.Inner.Reading.{summed, found}
+use Rattle.tape_records.specs.Inner.Reading.{summed}
 
 -- a byte that was read at a place: its value and the place after it, or no place
 abbrev pub ByteAt : Option ℕ → ℕ → Byte → Type 0

@@ -1,7 +1,6 @@
 -- What is kept, with a fresh end record, is a tape; of a sound tape every record is kept, and nothing is dropped.
 use Rattle.std.specs.Prelude.{ℕ, suc, ◌+◌, ◌*◌, ◌/◌, ◌%◌, ◌<◌, ◌≡◌, refl, Bool, true, false, cond, List, [], ◌∷◌, ◌++◌, eqb, length, drop}
 use Rattle.std.proofs.Common.{ap, sym, ◌∙◌, append-nil, add-zero, arith, length-append, ne_eqb}
-use Rattle.std.proofs.Math.Option.{some}
 use Rattle.laws.specs.Lemmas.Agree.{agree}
 use Rattle.text_writing.specs.Numerals.{digit, hex2, hex4}
 use Rattle.tape_records.specs.Records.{record_of, separator, only_separators, hexes, Bytes}

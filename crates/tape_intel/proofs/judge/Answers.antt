@@ -1,0 +1,12 @@
+-- By the type.
+use borrow.Author.Tests.{eq-eqb, ne_eqb}
+use Rattle.tape_intel.proofs.judge.Goals as goal
+
+pub returns-then-kind-eq0 : goal.returns-then-kind-eq0
+returns-then-kind-eq0 c = rw (eq-eqb _ _ c.if-kind-eq0.true) c.judge_data.ensures
+
+pub returns-then-kind-eq1 : goal.returns-then-kind-eq1
+returns-then-kind-eq1 c = rw (ne_eqb _ _ c.if-kind-eq0.false, eq-eqb _ _ c.if-kind-eq1.true) c.judge_end.ensures
+
+pub returns : goal.returns
+returns c = rw (ne_eqb _ _ c.if-kind-eq0.false, ne_eqb _ _ c.if-kind-eq1.false)
