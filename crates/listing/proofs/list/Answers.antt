@@ -2,7 +2,8 @@
 use native.Mathlib.Omega.{arith}
 use Rattle.text_writing.specs.Lemmas.Delivered.{all_written, no_room_lem}
 use Rattle.listing.specs.Listing.{listing}
-use Rattle.listing.specs.Lemmas.Outcomes.{to_the_last, listing_length, not_full, backwards, in_order_lem}
+use Rattle.listing.specs.Lemmas.Outcomes.{to_the_last, not_full, backwards, in_order_lem}
+use Rattle.listing.proofs.Lengths.{listing_length}
 use Rattle.listing.proofs.list.Goals as goal
 
 pub returns-then-memory-ne65536 : goal.returns-then-memory-ne65536

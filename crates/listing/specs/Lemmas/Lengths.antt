@@ -1,9 +1,8 @@
 -- How long a listing can be.
-use Prim.Native.Nat.{ℕ, zero, suc, ◌+◌, ◌-◌, ◌*◌, ◌≤◌}
-use Rattle.std.specs.Prelude.{◌≡◌, refl, Bool, true, false, cond, List, [], ◌∷◌, leb, length, get_or}
+use Prim.Native.Nat.{ℕ, zero, suc, ◌+◌, ◌*◌, ◌≤◌}
+use Rattle.std.specs.Prelude.{◌≡◌, refl, List, [], ◌∷◌, length, get_or}
 use native.Mathlib.Omega.{arith}
 use Rattle.std.proofs.Math.ListN.{length-append}
-use borrow.Author.Tests.{leb-true}
 use Rattle.instruction.specs.declared.Instruction.{Instruction}
 use Rattle.instruction.specs.declared.Instruction.TheVariants.{Read, Store, Modify, Branch, Internal, BRK, JMP, JSR, PHA, PHP, PLA, PLP, RTI, RTS}
 use Rattle.instruction.specs.declared.ReadOperation.TheVariants.{ADC, AND, BIT, CMP, CPX, CPY, EOR, LDA, LDX, LDY, ORA, SBC}
@@ -19,8 +18,8 @@ use Rattle.instruction.specs.Opcodes.{decoded}
 use Rattle.instruction.specs.Modes.{length_of}
 use Rattle.opcode_table.specs.Names.{mnemonic, name_of}
 use Rattle.listing_operands.specs.Operands.{written, operand}
-use Rattle.listing.specs.Lines.{Line, bytes_from, size, operand_of, line_of, unknown, lines, byte_fields, fields, text, texts, instruction_at, longest_instruction, per_byte}
-use Rattle.listing.specs.Lemmas.Lines.{size_some, size_most}
+use Rattle.listing.specs.Lines.{bytes_from, size, operand_of, line_of, byte_fields, fields, instruction_at, longest_instruction}
+use Rattle.listing.specs.Lemmas.Lines.{size_most}
 
 -- Every name has three letters.
 pub three_letters : (i : Instruction) → length (mnemonic i) ≡ 3
@@ -43,7 +42,7 @@ three_letters PLP = refl
 three_letters RTI = refl
 three_letters RTS = refl
 
-name_length : (d : Decoded) → length (name_of d) ≡ 3
+pub name_length : (d : Decoded) → length (name_of d) ≡ 3
 name_length Undefined = refl
 name_length (Defined e) = three_letters e.instruction
 
@@ -85,11 +84,11 @@ module _ (m : List ℕ) (at : ℕ) where
   operand_share IndexedIndirectX = omega arith
   operand_share IndirectIndexedY = omega arith
 
-  operand_of_share : (d : Decoded) → length (operand_of m at d) + 4 ≤ 6 * size d
+  pub operand_of_share : (d : Decoded) → length (operand_of m at d) + 4 ≤ 6 * size d
   operand_of_share Undefined = omega arith
   operand_of_share (Defined e) = operand_share e.mode
 
-field_length : (bs : List ℕ) → length (byte_fields bs) ≡ 3 * length bs
+pub field_length : (bs : List ℕ) → length (byte_fields bs) ≡ 3 * length bs
 field_length [] = refl
 field_length (b ∷ bs) = let rest = field_length bs in omega arith
 
@@ -105,43 +104,3 @@ module _ (m : List ℕ) where
 
   pub instruction_length : (at : ℕ) → length (instruction_at m at) ≤ longest_instruction
   instruction_length at = fields_length at (decoded (get_or m at 0))
-
-  -- 14 characters for each byte of a line, and of a stretch
-  line_length : (at : ℕ) (d : Decoded) → length (text (line_of m at d)) ≤ per_byte * size d
-  line_length at d =
-      simp length-append
-      (omega (arith, field_length (bytes_from m at (size d)), bytes_length at (size d), size_some d, name_length d, operand_of_share m at d))
-
-  unknown_length : (at n : ℕ) → length (texts (unknown m at n)) ≤ per_byte * n
-  unknown_length at zero = omega arith
-  unknown_length at (suc n) =
-      omega (
-        arith,
-        length-append (text (line_of m at Undefined)) (texts (unknown m (suc at) n)),
-        line_length at Undefined,
-        unknown_length (suc at) n,
-      )
-
-  either_length : (b : Bool) (n : ℕ) (s t : List Line) → (b ≡ true → length (texts s) ≤ n) → length (texts t) ≤ n
-      → length (texts (cond b s t)) ≤ n
-  either_length true n s t p q = p refl
-  either_length false n s t p q = q
-
-  pub lines_length : (at n covered : ℕ) → length (texts (lines m at n covered)) ≤ per_byte * (n - covered)
-  unfolding lines
-  lines_length at zero covered = omega arith
-  lines_length at (suc n) (suc covered) = let rest = lines_length (suc at) n covered in omega arith
-  lines_length at (suc n) zero =
-      let d = decoded (get_or m at 0) in
-      let rest = lines m (suc at) n (size d - 1) in
-      either_length (leb (size d) (suc n)) (per_byte * (suc n - 0)) (line_of m at d ∷ rest) (unknown m at (suc n))
-      (λ b.
-      omega (
-        arith,
-        leb-true (size d) (suc n) b,
-        size_some d,
-        length-append (text (line_of m at d)) (texts rest),
-        line_length at d,
-        lines_length (suc at) n (size d - 1),
-      ))
-      (omega (arith, unknown_length at (suc n)))

@@ -1,5 +1,5 @@
 -- Laws of what a listing gives, one for each way out of the code.
-use Prim.Native.Nat.{ℕ, suc, ◌+◌, ◌-◌, ◌*◌, ◌≤◌, ◌<◌}
+use Prim.Native.Nat.{ℕ, suc, ◌+◌, ◌-◌, ◌≤◌, ◌<◌}
 use Rattle.std.specs.Prelude.{◌≡◌, List, length}
 use native.Mathlib.Omega.{arith}
 use borrow.Author.Tests.{eq-eqb, ne_eqb, lt-ltb, le-ltb}
@@ -7,9 +7,8 @@ use Rattle.laws.specs.Answers.{memory_not_full, first_above_last}
 use Rattle.manual.specs.Stepping.{full_memory}
 use Rattle.text_writing.specs.Written.{Wrote}
 use Rattle.text_writing.specs.Delivered.{Delivered, refused, delivered}
-use Rattle.listing.specs.Lines.{lines, texts, per_byte}
-use Rattle.listing.specs.Listing.{listing, listing_into, longest_listing}
-use Rattle.listing.specs.Lemmas.Lengths.{lines_length}
+use Rattle.listing.specs.Lines.{lines, texts}
+use Rattle.listing.specs.Listing.{listing, listing_into}
 
 module _ (m : List ℕ) (first last : ℕ) where
   -- the text as the code writes it, up to the address after the last
@@ -19,14 +18,6 @@ module _ (m : List ℕ) (first last : ℕ) where
   to_the_last h w =
       let count : last + 1 - first ≡ suc (last - first) = omega arith in
       rw count at w
-
-  -- how long it can be, by its stretch and by that of the whole memory, so that its end is no largest `usize`
-  pub listing_share : length (listing m first last) ≤ per_byte * suc (last - first)
-  unfolding listing
-  listing_share = omega (arith, lines_length m first (suc (last - first)) 0)
-
-  pub listing_length : last < 65536 → length (listing m first last) ≤ longest_listing
-  listing_length h = omega (arith, listing_share)
 
 module _ (m : List ℕ) (first last : ℕ) (buffer : List ℕ) where
   pub not_full : (length m ≡ full_memory → ⊥) → refused memory_not_full buffer ≡ listing_into m first last buffer

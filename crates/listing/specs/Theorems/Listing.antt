@@ -1,31 +1,27 @@
--- What a listing shows: every byte of its stretch once and in order, each line at the address of its bytes; how much room it
--- takes; and examples.
-use Prim.Native.Nat.{ℕ, zero, suc, ◌+◌, ◌-◌, ◌*◌, ◌≤◌, ◌<◌}
+-- What a listing shows: every byte of its stretch once and in order, each line at the address of its bytes; and examples. How
+-- much room it takes is in proofs/Room.antt.
+use Prim.Native.Nat.{ℕ, zero, suc, ◌+◌, ◌-◌, ◌≤◌}
 use Rattle.std.specs.Prelude.{◌≡◌, Bool, true, false, cond, leb, get_or, length, replicate}
 use Rattle.std.proofs.Math.Path.{refl, ap}
 use Rattle.std.proofs.Common.{sym, ◌∙◌, subst}
 use mathlib.Core.List.{List, [], ◌∷◌, ◌++◌}
 use native.Mathlib.Omega.{arith}
-use Rattle.std.proofs.Math.ListN.{length-append}
 use Rattle.std.proofs.lemmas.List.Edits.{sets}
-use borrow.Author.Tests.{leb-true, le-leb, eq-eqb, le-ltb}
+use borrow.Author.Tests.{leb-true}
 use Rattle.instruction.specs.declared.Decoded.{Decoded}
 use Rattle.instruction.specs.declared.Decoded.TheVariants.{Undefined}
 use Rattle.instruction.specs.Opcodes.{rows, decoded}
-use Rattle.laws.specs.Answers.{not_refused}
 use Rattle.manual.specs.Words.{address_of, signed, around}
-use Rattle.manual.specs.Stepping.{full_memory}
 use Rattle.manual.specs.Branching.{branch_target}
 use Rattle.manual.specs.Lemmas.Programs.{either as by_test}
 use Rattle.laws.specs.Characters.{characters}
 use Rattle.text_writing.specs.Numerals.{digit}
 use Rattle.opcode_table.specs.Names.{mnemonic}
 use Rattle.listing_operands.specs.Operands.{written, operand}
-use Rattle.listing.specs.Lines.{Line, bytes_from, size, line_of, unknown, lines, text, texts, per_byte}
-use Rattle.listing.specs.Listing.{listing, longest_listing, listing_into}
+use Rattle.listing.specs.Lines.{Line, bytes_from, size, line_of, unknown, lines}
+use Rattle.listing.specs.Listing.{listing}
 use Rattle.listing.specs.Lemmas.Lines.{size_some}
 use Rattle.listing.specs.Lemmas.Lengths.{bytes_length}
-use Rattle.listing.specs.Lemmas.Outcomes.{listing_share}
 
 -- the bytes that some lines show
 abbrev pub bytes_of : List Line → List ℕ
@@ -105,46 +101,6 @@ module _ (m : List ℕ) where
   -- Each line stands at the address of its bytes.
   pub line_addresses : (at n : ℕ) → LinesAt at (lines m at n 0)
   line_addresses at n = let here : at + 0 ≡ at = omega arith in rw here at (placed at n 0)
-
--- A buffer of 14 characters for each byte of the stretch is always enough, and the listing of a memory full of `ASL A` fills it.
-pub list_room : (m : List ℕ) (first last : ℕ) (buffer : List ℕ) → length m ≡ full_memory → first ≤ last
-    → per_byte * suc (last - first) ≤ length buffer
-    → (listing_into m first last buffer).answer ≡ not_refused
-unfolding listing_into
-list_room m first last buffer full ordered room =
-    let fits : length (listing m first last) ≤ length buffer = omega (arith, listing_share m first last) in
-    rw (eq-eqb (length m) full_memory full, le-ltb last first ordered, le-ltb (length buffer) (length (listing m first last)) fits)
-
-accumulator_size : size (decoded 0x0A) ≡ 1
-unfolding rows decoded
-accumulator_size = refl
-
-accumulator_length : (m : List ℕ) (at : ℕ) → length (text (line_of m at (decoded 0x0A))) ≡ per_byte
-unfolding mnemonic written operand rows decoded
-accumulator_length m at = refl
-
-module _ (m : List ℕ) where
-  one_byte : (at n : ℕ) (d : Decoded) → decoded (get_or m at 0) ≡ d → size d ≡ 1
-      → texts (lines m at (suc n) 0) ≡ text (line_of m at d) ++ texts (lines m (suc at) n 0)
-  unfolding lines
-  one_byte at n d e f = rw (e, f, le-leb 1 (suc n) (omega arith))
-
-  accumulators : ((at : ℕ) → at < 65536 → get_or m at 0 ≡ 0x0A) → (at n : ℕ) → at + n ≤ 65536
-      → length (texts (lines m at n 0)) ≡ per_byte * n
-  unfolding lines
-  accumulators all at zero h = refl
-  accumulators all at (suc n) h =
-      rw (one_byte at n (decoded 0x0A) (ap decoded (all at (omega arith))) accumulator_size)
-      (omega (
-        arith,
-        length-append (text (line_of m at (decoded 0x0A))) (texts (lines m (suc at) n 0)),
-        accumulator_length m at,
-        accumulators all (suc at) n (omega arith),
-      ))
-
-  pub longest_listing_lem : ((at : ℕ) → at < 65536 → get_or m at 0 ≡ 0x0A) → length (listing m 0 65535) ≡ longest_listing
-  unfolding listing
-  longest_listing_lem all = accumulators all 0 65536 (omega arith)
 
 abbrev memory : ℕ → List ℕ → List ℕ
 memory at bytes = sets (replicate 65536 0) at bytes

@@ -1,6 +1,5 @@
 -- A trace that is checked part by part: two parts, one after the other, are checked as they are as one.
 use Rattle.std.specs.Prelude.{ℕ, ◌+◌, List}
-use Rattle.trace_line.specs.Theorems.Lines as line
 use Rattle.trace_checking.specs.declared.Part.{Part}
 use Rattle.trace_checking.specs.Checking.{part_of}
 

@@ -1,6 +1,6 @@
 -- What the entries of a part show, in the words of the rules.
 use Rattle.std.specs.Prelude.{ℕ, zero, suc, ◌+◌, ◌<◌, ◌≤◌, ◌≡◌, refl, Bool, true, false, List, [], ◌∷◌, ◌++◌, length, drop}
-use Rattle.std.proofs.Common.{ap, sym, ◌∙◌, subst, true≢false, append_assoc, append-nil, arith, length-append, length-drop, drop_at}
+use Rattle.std.proofs.Common.{ap, sym, ◌∙◌, subst, true≢false, append_assoc, arith, length-append, length-drop, drop_at}
 use Rattle.laws.specs.Answers.{malformed_entry, stray_entry}
 use Rattle.manual.specs.declared.Machine.{Machine}
 use Rattle.text_reading.specs.Numbers.{nowhere}

@@ -9,14 +9,14 @@ use Rattle.manual.specs.declared.Ended.{Ended}
 use Rattle.manual.specs.declared.Reason.{Reason}
 use Rattle.manual.specs.declared.Reason.TheVariants.{Made}
 use Rattle.manual.specs.Micro.{exec, Gives}
-use Rattle.manual.specs.Outcomes.{number, is_made, stepped}
+use Rattle.manual.specs.Outcomes.{number, stepped}
 use Rattle.manual.specs.Interrupts.{idle}
-use Rattle.manual.specs.Stepping.{full_memory, highest_count, step_full, step, run}
+use Rattle.manual.specs.Stepping.{full_memory, highest_count, step_full, run}
 use Rattle.manual.specs.Lemmas.Programs.{exec_length}
 use Rattle.manual.specs.Lemmas.StepLaws.{step_whole}
 use Rattle.manual.specs.Theorems.Within.{Bytes}
 use Rattle.manual.specs.Theorems.Answers.{step_answers}
-use Rattle.manual.specs.Theorems.RunAnswers.{Leads, Ends, all_made_lem, no_cycle_room_lem, not_an_opcode_lem, RunTable, ran, memory_not_full_lem, bound_too_high_lem, run_answers}
+use Rattle.manual.specs.Theorems.RunAnswers.{Leads, all_made_lem, no_cycle_room_lem, not_an_opcode_lem, RunTable, ran, memory_not_full_lem, bound_too_high_lem, run_answers}
 use Rattle.manual.specs.Theorems.Ranges.{StepInRange, step_ranges}
 use Rattle.manual.specs.Theorems.Serving.{recorded}
 use Rattle.trace_line.specs.Lines.{Spellable}

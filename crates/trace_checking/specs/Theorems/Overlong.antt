@@ -3,10 +3,9 @@ use Rattle.std.specs.Prelude.{ℕ, ◌+◌, ◌<◌, ◌≤◌, ◌≡◌, refl,
 use Rattle.std.proofs.Common.{ap, sym, ◌∙◌, append_assoc, append-nil, add-zero, arith, length-append, length-drop, take-append-drop, drop_at, get_or-drop}
 use Rattle.std.proofs.Math.ListN.{get_or-append}
 use Rattle.laws.specs.Answers.{malformed_entry}
-use Rattle.manual.specs.declared.Machine.{Machine}
 use Rattle.text_reading.specs.Numbers.{nowhere}
 use Rattle.trace_fields.specs.Fields.{machine_fields}
-use Rattle.trace_line.specs.Lines.{line_text, longest_line}
+use Rattle.trace_line.specs.Lines.{longest_line}
 use Rattle.trace_line.specs.Theorems.Lines as line
 use Rattle.trace_checking.specs.declared.Last.{Last}
 use Rattle.trace_checking.specs.declared.Part.{Part}

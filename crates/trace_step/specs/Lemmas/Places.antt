@@ -1,11 +1,11 @@
 -- The laws that the proof of the code cites.
-use Rattle.std.specs.Prelude.{ℕ, ◌≡◌, refl, Bool, true, false, length}
+use Rattle.std.specs.Prelude.{ℕ, ◌≡◌, Bool, true, false, length}
 use Rattle.std.proofs.Math.Path.{ap, sym}
 use Rattle.std.proofs.Common.{◌∙◌}
 use mathlib.Core.List.{List}
 use Rattle.manual.specs.declared.Machine.{Machine}
 use Rattle.manual.specs.declared.Stepped.{Stepped}
-use Rattle.manual.specs.Micro.{exec, Gives}
+use Rattle.manual.specs.Micro.{Gives}
 use Rattle.manual.specs.Interrupts.{idle}
 use Rattle.manual.specs.Stepping.{full_memory, step}
 use Rattle.manual.specs.Lemmas.StepLaws.{step_short}
