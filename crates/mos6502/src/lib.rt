@@ -1,4 +1,4 @@
-// The core on numbers, for a host in C or Rust: see host/include/mos6502.h. A step by itself is in `mos6502_step`.
+// The core on numbers. A host in C or Rust calls it by the archive of `mos6502_c`; a step by itself is in `mos6502_step`.
 #![tactic(auto)]
 
 ghost use Rattle.std.specs.Prelude.{◌≡◌, true, ◌<◌, length};
@@ -20,15 +20,7 @@ use mos6502_numbers::{hand_back, lines_from, machine_from, pack, unpack, unpack_
 use registers::{Registers, Status, flag};
 
 // The number of some registers; bits 4 and 5 of the status do not matter. The last level of NMI is high, as it is at first.
-#[unsafe(no_mangle)]
-pub extern "C" fn mos6502_registers(
-    accumulator: u8,
-    x: u8,
-    y: u8,
-    stack: u8,
-    status: u8,
-    counter: u16,
-) -> u64
+pub fn mos6502_registers(accumulator: u8, x: u8, y: u8, stack: u8, status: u8, counter: u16) -> u64
     ensures { result ≡ packed (registers_of accumulator x y stack counter (pulled_status status)) true }
 {
     pack(
@@ -38,56 +30,49 @@ pub extern "C" fn mos6502_registers(
 }
 
 // A of a number.
-#[unsafe(no_mangle)]
-pub extern "C" fn mos6502_accumulator(registers: u64) -> u8
+pub fn mos6502_accumulator(registers: u64) -> u8
     ensures { result ≡ (unpacked registers).accumulator }
 {
     unpack(registers).accumulator
 }
 
 // X of a number.
-#[unsafe(no_mangle)]
-pub extern "C" fn mos6502_x(registers: u64) -> u8
+pub fn mos6502_x(registers: u64) -> u8
     ensures { result ≡ (unpacked registers).x }
 {
     unpack(registers).x
 }
 
 // Y of a number.
-#[unsafe(no_mangle)]
-pub extern "C" fn mos6502_y(registers: u64) -> u8
+pub fn mos6502_y(registers: u64) -> u8
     ensures { result ≡ (unpacked registers).y }
 {
     unpack(registers).y
 }
 
 // S of a number.
-#[unsafe(no_mangle)]
-pub extern "C" fn mos6502_stack(registers: u64) -> u8
+pub fn mos6502_stack(registers: u64) -> u8
     ensures { result ≡ (unpacked registers).stack.0 }
 {
     unpack(registers).stack.0
 }
 
 // The status of a number, as PHP pushes it.
-#[unsafe(no_mangle)]
-pub extern "C" fn mos6502_status(registers: u64) -> u8
+pub fn mos6502_status(registers: u64) -> u8
     ensures { result ≡ pushed_byte (unpacked registers).status }
 {
     unpack(registers).status.pushed()
 }
 
 // The counter of a number.
-#[unsafe(no_mangle)]
-pub extern "C" fn mos6502_counter(registers: u64) -> u16
+pub fn mos6502_counter(registers: u64) -> u16
     ensures { result ≡ (unpacked registers).counter }
 {
     unpack(registers).counter
 }
 
 // The last level of NMI of a number: 1 if it was high, 0 if it was low.
-#[unsafe(no_mangle)]
-pub extern "C" fn mos6502_nmi(registers: u64) -> u8
+pub fn mos6502_nmi(registers: u64) -> u8
     ensures { result ≡ bit (unpacked_nmi registers) }
 {
     flag(unpack_nmi(registers))
@@ -192,8 +177,7 @@ fn go_on(
 }
 
 // A run of at most `bound` steps. If it makes none, both numbers stay as they were.
-#[unsafe(no_mangle)]
-pub extern "C" fn mos6502_run(
+pub fn mos6502_run(
     registers: &mut u64,
     cycles: &mut u64,
     steps: &mut u64,
@@ -217,8 +201,7 @@ pub extern "C" fn mos6502_run(
 }
 
 // A run of any number of steps. If it makes none, both numbers stay as they were.
-#[unsafe(no_mangle)]
-pub extern "C" fn mos6502_long_run(
+pub fn mos6502_long_run(
     registers: &mut u64,
     cycles: &mut u64,
     steps: &mut u64,
@@ -239,8 +222,7 @@ pub extern "C" fn mos6502_long_run(
 
 // A run that is over when `limit` or more cycles are spent, made of runs by steps. Where it makes no step, both numbers stay as
 // they were.
-#[unsafe(no_mangle)]
-pub extern "C" fn mos6502_run_cycles(
+pub fn mos6502_run_cycles(
     registers: &mut u64,
     cycles: &mut u64,
     steps: &mut u64,
@@ -281,13 +263,4 @@ pub extern "C" fn mos6502_run_cycles(
     }
     *steps = total;
     NOT_REFUSED
-}
-
-// The version of these functions. A host asks for it by this name, so that an older archive does not link, and the linker says
-// what to do. It changes, in the name too, with any change that a host would have to follow.
-#[unsafe(no_mangle)]
-pub extern "C" fn mos6502_version_1_run_rt_staticlib_mos6502() -> u8
-    ensures { result ≡ 1 }
-{
-    1
 }

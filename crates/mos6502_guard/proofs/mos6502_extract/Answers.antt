@@ -1,0 +1,6 @@
+-- The run of the machine of the numbers.
+use Rattle.mos6502_guard.specs.Lemmas.Numbers.{both}
+use Rattle.mos6502_guard.proofs.mos6502_extract.Goals as goal
+
+pub returns : goal.returns
+returns c = both _ _ c.hand_over.ensures (rw (c.machine_from.ensures, c.lines_from.ensures) at c.extract-guarded.ensures)
