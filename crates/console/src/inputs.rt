@@ -1,5 +1,6 @@
 // An input that an argument names. `-` is standard input, and so is an argument that is missing.
-ghost use Rattle.std.specs.Prelude.{◌≤◌, ◌≡◌, length, take};
+ghost use Rattle.std.specs.Prelude.{◌≤◌, ◌≡◌, ◌≢◌, IfNone, length, take};
+ghost use Rattle.std.specs.Io.{ReadsAtMost};
 ghost use Rattle.text_writing.specs.Counts.{IsPrefixLen};
 ghost use Rattle.console.specs.Failing.{FailureStays};
 
@@ -28,7 +29,9 @@ pub enum Input {
 
 impl Input {
     // Reads what there is, as far as it fits: nothing more at the end.
-    pub fn read(&mut self, buffer: &mut [u8]) -> std::io::Result<usize> {
+    pub fn read(&mut self, buffer: &mut [u8]) -> std::io::Result<usize>
+        ensures { ReadsAtMost result buffer.new }
+    {
         match self {
             Input::Standard(stdin) => stdin.read(buffer),
             Input::Named(file) => file.read(buffer),
@@ -53,7 +56,8 @@ fn open_path(rt: HostRuntime, name: &[u8]) -> std::io::Result<File> {
 
 // Opens a file, which sentences call `shown`. If it cannot be opened 66 is noted, and there is none.
 fn open_file(rt: HostRuntime, name: &[u8], shown: &[u8], failed: &mut u8) -> Option<Input>
-    ensures { FailureStays failed.old failed.new }
+    ensures failure_stays { FailureStays failed.old failed.new }
+    ensures not_opened { IfNone result (failed.new ≢ 0) }
 {
     match open_path(rt, name) {
         Ok(file) => Some(Input::Named(file)),
@@ -67,7 +71,8 @@ fn open_file(rt: HostRuntime, name: &[u8], shown: &[u8], failed: &mut u8) -> Opt
 
 // Opens the input that an argument names. If it cannot be opened 66 is noted, and there is none.
 pub fn open_input(rt: HostRuntime, index: usize, failed: &mut u8) -> Option<Input>
-    ensures { FailureStays failed.old failed.new }
+    ensures failure_stays { FailureStays failed.old failed.new }
+    ensures not_opened { IfNone result (failed.new ≢ 0) }
 {
     if is_standard_input(rt, index) {
         return Some(Input::Standard(rt.stdin()));

@@ -8,6 +8,7 @@ use crate::arguments::{LONGEST_WORD, is_standard_input, put_argument};
 use crate::outputs::say;
 use text_writing::{put_byte, put_text};
 
+#[tactic(auto, unfolding(crate::specs::Names::printed))]
 fn printed(byte: u8) -> u8
     ensures { result ≡ Names·printed byte }
 {

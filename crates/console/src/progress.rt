@@ -1,20 +1,14 @@
 // How far a long piece of work is, if standard error is a terminal: one line that is renewed.
 use crate::outputs::tell;
 use std::io::IsTerminal;
-use text_writing::put_decimal;
-
-// The most digits that a count has.
-const LONGEST_COUNT: usize = 20;
 
 // Shows a count, with a word for what is counted.
 pub fn show_progress(rt: HostRuntime, program: &[u8], count: u64, counted: &[u8]) {
     if rt.stderr().is_terminal() {
-        let mut digits = [0u8; LONGEST_COUNT];
-        let size = put_decimal(&mut digits, 0, count);
         tell(rt, b"\r");
         tell(rt, program);
         tell(rt, b": ");
-        tell(rt, &digits[..size]);
+        let _ = rt.stderr().print(count);
         tell(rt, b" ");
         tell(rt, counted);
     }
