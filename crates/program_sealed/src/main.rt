@@ -164,7 +164,7 @@ fn seal_file(
 {
     let size = input.len();
     let goal = work.goal;
-    let guarded = run_sealed(work.steps, sealed, &mut image[..size]);
+    let guarded = run_sealed(rt, work.steps, sealed, &mut image[..size]);
     print_line(rt, guarded, failed);
     let status = swear(rt, names.image, goal, word, guarded, &image[..size], failed);
     if first_of(*failed, status) != 0 {
