@@ -1,109 +1,159 @@
 // An input that an argument names. `-` is standard input, and so is an argument that is missing.
-ghost use Rattle.std.specs.Prelude.{◌≤◌, ◌≡◌, length, take};
-ghost use Rattle.io.specs.Counts.{IsPrefixLen};
+ghost use Rattle.std.specs.Prelude.{◌≤◌, ◌≡◌, ◌≢◌, IfNone, length, take};
+ghost use Rattle.std.specs.Io.{ReadsAtMost};
+ghost use Rattle.text_writing.specs.Counts.{IsPrefixLen};
 ghost use Rattle.console.specs.Failing.{FailureStays};
 
-use crate::arguments::is_standard_input;
+use crate::arguments::{LONGEST_WORD, is_standard_input, put_argument};
 use crate::names::put_input_name;
 use crate::outputs::{note_failure, say};
-use libc::STDIN_FILENO;
+use crate::reasons::say_why;
 use statuses::{FAILED, NOT_OPENED};
+use std::fs::File;
+use std::io::{Read, Stdin};
 use text_writing::put_text;
 
 // How much of an input was read, and the status of what was done with it.
-#[derive(Drop)]
+#[derive(Clone, Copy)]
 pub struct Done {
     pub size: usize,
     pub status: u8,
 }
 
-// Opens a file, which sentences call `shown`. If it cannot be opened 66 is noted, and the answer is below 0.
-fn open_file(name: &[u8], shown: &[u8], failed: &mut u8) -> i32
-    ensures { FailureStays failed.old failed.new }
-{
-    let descriptor = os::open_read(name);
-    if descriptor < 0 {
-        os::fail(shown);
-        note_failure(NOT_OPENED, failed);
-    }
-    descriptor
+// An input that is open.
+#[derive(Drop)]
+pub enum Input {
+    Standard(Stdin),
+    Named(File),
 }
 
-// Opens the input that an argument names.
-pub fn open_input(index: usize, failed: &mut u8) -> i32
-    ensures { FailureStays failed.old failed.new }
+impl Input {
+    // Reads what there is, as far as it fits: nothing more at the end.
+    pub fn read(&mut self, buffer: &mut [u8]) -> std::io::Result<usize>
+        ensures { ReadsAtMost result buffer.new }
+    {
+        match self {
+            Input::Standard(stdin) => stdin.read(buffer),
+            Input::Named(file) => file.read(buffer),
+        }
+    }
+}
+
+// The text of a name, as std takes it. A name that is no UTF-8 is refused in the system's own words.
+pub fn path_of(name: &[u8]) -> std::io::Result<&str> {
+    match std::str::from_utf8(name) {
+        Ok(path) => Ok(path),
+        Err(_) => Err(std::io::Error::from_raw_os_error(NO_TEXT)),
+    }
+}
+
+// The system's number for bytes that are no text (EILSEQ).
+const NO_TEXT: i32 = 84;
+
+fn open_path(rt: HostRuntime, name: &[u8]) -> std::io::Result<File> {
+    File::open(&rt, path_of(name)?)
+}
+
+// Opens a file, which sentences call `shown`. If it cannot be opened 66 is noted, and there is none.
+fn open_file(rt: HostRuntime, name: &[u8], shown: &[u8], failed: &mut u8) -> Option<Input>
+    ensures failure_stays { FailureStays failed.old failed.new }
+    ensures not_opened { IfNone result (failed.new ≢ 0) }
 {
-    if is_standard_input(index) {
-        return STDIN_FILENO;
+    match open_path(rt, name) {
+        Ok(file) => Some(Input::Named(file)),
+        Err(error) => {
+            say_why(rt, shown, error);
+            note_failure(NOT_OPENED, failed);
+            None
+        }
     }
-    let mut shown = io::buffer();
-    let size = put_input_name(&mut shown, index);
-    let mut name = io::buffer();
-    let length = os::arg(index, &mut name);
-    if os::errno() != 0 || length == 0 {
+}
+
+// Opens the input that an argument names. If it cannot be opened 66 is noted, and there is none.
+pub fn open_input(rt: HostRuntime, index: usize, failed: &mut u8) -> Option<Input>
+    ensures failure_stays { FailureStays failed.old failed.new }
+    ensures not_opened { IfNone result (failed.new ≢ 0) }
+{
+    if is_standard_input(rt, index) {
+        return Some(Input::Standard(rt.stdin()));
+    }
+    let mut shown = [0u8; LONGEST_WORD];
+    let size = put_input_name(rt, &mut shown, index);
+    let mut name = [0u8; LONGEST_WORD];
+    let length = put_argument(rt, &mut name, index);
+    if length == 0 {
         note_failure(NOT_OPENED, failed);
-        say(b"the name of an input is empty or too long\n", failed);
-        return -1;
+        say(rt, b"the name of an input is empty or too long\n", failed);
+        return None;
     }
-    open_file(&name[..length], &shown[..size], failed)
+    open_file(rt, &name[..length], &shown[..size], failed)
 }
 
 // Standard input stays open: it may be named again, and is at its end then.
-pub fn close_input(descriptor: i32) {
-    if STDIN_FILENO < descriptor {
-        libc::close(descriptor);
-    }
+pub fn close_input(input: Input) {
+    drop(input);
 }
 
-// Reads until the buffer is full or the input ends. `io::read_full` takes an error for the end.
-fn read_from(descriptor: i32, shown: &[u8], buffer: &mut [u8], failed: &mut u8) -> usize
+// Reads until the buffer is full or the input ends.
+fn read_from(
+    rt: HostRuntime,
+    input: &mut Input,
+    shown: &[u8],
+    buffer: &mut [u8],
+    failed: &mut u8,
+) -> usize
     ensures prefix_len { IsPrefixLen result buffer.new }
     ensures failure_stays { FailureStays failed.old failed.new }
 {
     let mut size = 0;
     while size < buffer.len() {
-        let got = libc::read(descriptor, &mut buffer[size..]);
-        if got < 0 {
-            os::fail(shown);
-            note_failure(FAILED, failed);
-            return 0;
+        match input.read(&mut buffer[size..]) {
+            Ok(0) => break,
+            Ok(more) => size += more,
+            Err(error) => {
+                say_why(rt, shown, error);
+                note_failure(FAILED, failed);
+                return 0;
+            }
         }
-        let more = io::count(got, &buffer[size..]);
-        if more == 0 {
-            break;
-        }
-        size += more;
     }
     size
 }
 
 // Reads the input that an argument names, as far as it fits, and answers its size: whoever has to know whether it is longer
 // lends a byte more.
-pub fn read_input(index: usize, buffer: &mut [u8], failed: &mut u8) -> usize
+pub fn read_input(rt: HostRuntime, index: usize, buffer: &mut [u8], failed: &mut u8) -> usize
     ensures prefix_len { IsPrefixLen result buffer.new }
     ensures failure_stays { FailureStays failed.old failed.new }
 {
-    let descriptor = open_input(index, failed);
-    if descriptor < 0 {
-        return 0;
+    match open_input(rt, index, failed) {
+        None => 0,
+        Some(mut input) => {
+            let mut shown = [0u8; LONGEST_WORD];
+            let length = put_input_name(rt, &mut shown, index);
+            let size = read_from(rt, &mut input, &shown[..length], buffer, failed);
+            close_input(input);
+            size
+        }
     }
-    let mut shown = io::buffer();
-    let length = put_input_name(&mut shown, index);
-    let size = read_from(descriptor, &shown[..length], buffer, failed);
-    close_input(descriptor);
-    size
 }
 
 // Reads the input that an argument names, and puts it into a second buffer too, for whoever works on it there and has to
 // know afterwards what was read.
-pub fn read_two(index: usize, input: &mut [u8], copy: &mut [u8], failed: &mut u8) -> usize
+pub fn read_two(
+    rt: HostRuntime,
+    index: usize,
+    input: &mut [u8],
+    copy: &mut [u8],
+    failed: &mut u8,
+) -> usize
     requires { length input.old ≤ length copy.old }
     ensures prefix_len { IsPrefixLen result input.new }
     ensures copy_after { take result copy.new ≡ take result input.new }
     ensures prefix_len_2 { IsPrefixLen result copy.new }
     ensures failure_stays { FailureStays failed.old failed.new }
 {
-    let size = read_input(index, input, failed);
+    let size = read_input(rt, index, input, failed);
     put_text(copy, 0, &input[..size]);
     size
 }

@@ -7,13 +7,15 @@ mod arguments; // arguments.rt: the words after a program's name
 mod inputs; // inputs.rt: an input that is read
 mod names; // names.rt: the name of a file, as it is printed
 mod outputs; // outputs.rt: text that is written, the status
+mod reasons; // reasons.rt: why the system refused something
 mod progress; // progress.rt: how far a long piece of work is, at a terminal
 
 pub use arguments::{
-    Asked, Names, address_argument, argument_is, count_argument, image_and_after, names_from,
-    steps_and_stop,
+    Asked, Names, address_argument, argument_count, argument_is, count_argument, image_and_after,
+    names_from, put_argument, steps_and_stop,
 };
-pub use inputs::{Done, close_input, open_input, read_input, read_two};
+pub use inputs::{Done, Input, close_input, open_input, path_of, read_input, read_two};
 pub use names::{put_input_name, put_name, put_printed, say_of};
 pub use outputs::{hand_over, note_failure, refuse, say, write_output};
 pub use progress::{show_progress, wipe_progress};
+pub use reasons::say_why;

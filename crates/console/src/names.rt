@@ -4,10 +4,11 @@ ghost use Rattle.text_writing.specs.Written.{Wrote};
 ghost use Rattle.console.specs.Failing.{FailureStays};
 ghost use Rattle.console.specs.Names.{printed as Names·printed, printed_name, WroteName};
 
-use crate::arguments::is_standard_input;
+use crate::arguments::{LONGEST_WORD, is_standard_input, put_argument};
 use crate::outputs::say;
 use text_writing::{put_byte, put_text};
 
+#[tactic(auto, unfolding(crate::specs::Names::printed))]
 fn printed(byte: u8) -> u8
     ensures { result ≡ Names·printed byte }
 {
@@ -34,31 +35,31 @@ pub fn put_printed(out: &mut [u8], at: usize, name: &[u8]) -> usize
 }
 
 // Puts an argument so.
-pub fn put_name(out: &mut [u8], at: usize, index: usize) -> usize
+pub fn put_name(rt: HostRuntime, out: &mut [u8], at: usize, index: usize) -> usize
     ensures { WroteName out.old at out.new result }
 {
-    let mut name = io::buffer();
-    let length = os::arg(index, &mut name);
+    let mut name = [0u8; LONGEST_WORD];
+    let length = put_argument(rt, &mut name, index);
     put_printed(out, at, &name[..length])
 }
 
 // Puts what a sentence calls the input that an argument names.
-pub fn put_input_name(out: &mut [u8], index: usize) -> usize
+pub fn put_input_name(rt: HostRuntime, out: &mut [u8], index: usize) -> usize
     ensures { result ≤ 4096 }
 {
-    if is_standard_input(index) {
+    if is_standard_input(rt, index) {
         return put_text(out, 0, b"standard input");
     }
-    put_name(out, 0, index)
+    put_name(rt, out, 0, index)
 }
 
 // Says a sentence about what an argument names, with the name before it.
-pub fn say_of(index: usize, sentence: &[u8], failed: &mut u8)
+pub fn say_of(rt: HostRuntime, index: usize, sentence: &[u8], failed: &mut u8)
     ensures { FailureStays failed.old failed.new }
 {
-    let mut name = io::buffer();
-    let size = put_input_name(&mut name, index);
-    say(&name[..size], failed);
-    say(b": ", failed);
-    say(sentence, failed);
+    let mut name = [0u8; LONGEST_WORD];
+    let size = put_input_name(rt, &mut name, index);
+    say(rt, &name[..size], failed);
+    say(rt, b": ", failed);
+    say(rt, sentence, failed);
 }

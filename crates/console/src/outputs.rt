@@ -3,7 +3,7 @@ ghost use Rattle.std.specs.Prelude.{◌≡◌};
 ghost use Rattle.statuses.specs.Statuses.{first_of};
 ghost use Rattle.console.specs.Failing.{FailureStays};
 
-use libc::{STDERR_FILENO, STDOUT_FILENO};
+use crate::reasons::say_why;
 use statuses::{FAILED, LONGEST_STATUS, WRONG_USAGE, first_of, put_status};
 
 // The descriptor on which `run` waits for the status.
@@ -19,40 +19,43 @@ pub fn note_failure(status: u8, failed: &mut u8)
 }
 
 // Writes to standard output. If that fails it is said, and 74 is noted.
-pub fn write_output(text: &[u8], failed: &mut u8)
+pub fn write_output(rt: HostRuntime, text: &[u8], failed: &mut u8)
     ensures { FailureStays failed.old failed.new }
 {
-    if io::write_all(STDOUT_FILENO, text) {
-        return;
+    if let Err(error) = rt.stdout().write_all(text) {
+        say_why(rt, b"standard output", error);
+        note_failure(FAILED, failed);
     }
-    os::fail(b"standard output");
-    note_failure(FAILED, failed);
 }
 
 // Writes to standard error. If that fails 74 is noted: a sentence is part of the answer.
-pub fn say(text: &[u8], failed: &mut u8)
+pub fn say(rt: HostRuntime, text: &[u8], failed: &mut u8)
     ensures { FailureStays failed.old failed.new }
 {
-    if io::write_all(STDERR_FILENO, text) {
-        return;
+    if rt.stderr().write_all(text).is_err() {
+        note_failure(FAILED, failed);
     }
-    note_failure(FAILED, failed);
+}
+
+// Writes to standard error where a failure changes nothing: the status already says that the work is not done.
+pub(crate) fn tell(rt: HostRuntime, text: &[u8]) {
+    let _ = rt.stderr().write_all(text);
 }
 
 // Says what a program takes, and answers the status of wrong usage.
-pub fn refuse(sentence: &[u8]) -> u8
+pub fn refuse(rt: HostRuntime, sentence: &[u8]) -> u8
     ensures { result ≡ 64 }
 {
-    io::write_all(STDERR_FILENO, sentence);
+    tell(rt, sentence);
     WRONG_USAGE
 }
 
 // The same, with the program's name before it.
-pub(crate) fn refuse_for(program: &[u8], sentence: &[u8]) -> u8
+pub(crate) fn refuse_for(rt: HostRuntime, program: &[u8], sentence: &[u8]) -> u8
     ensures { result ≡ 64 }
 {
-    io::write_all(STDERR_FILENO, program);
-    refuse(sentence)
+    tell(rt, program);
+    refuse(rt, sentence)
 }
 
 // The last thing that a program does. It may have been started by hand, without that descriptor: then nobody waits.

@@ -1,26 +1,13 @@
 // The names of files: the one that a symbolic link leads to, and one beside a file.
-ghost use Rattle.std.specs.Prelude.{◌≤◌, length};
-ghost use Rattle.io.specs.Counts.{IsPrefixLen};
-ghost use Rattle.libc.specs.Io.{Ended};
+ghost use Rattle.text_writing.specs.Counts.{IsPrefixLen};
 
-use libc::PATH_MAX;
+use console::{path_of, put_argument};
+use std::fs;
+use std::random::RandomSource;
 use text_writing::{put_hex2, put_text};
-
-// The last place of a path, where 0 stands.
-const LAST: usize = PATH_MAX - 1;
 
 // As many links as the system itself follows.
 const LINKS: u64 = 40;
-
-// A name as the system takes it: as much as leaves room for a 0, and then zeros.
-pub(crate) fn ended(name: &[u8]) -> [u8; PATH_MAX]
-    ensures { Ended result }
-{
-    let mut path = io::buffer();
-    put_text(&mut path, 0, name);
-    path[LAST] = 0;
-    path
-}
 
 // Where the folder of a name ends: after its last slash, or at its start.
 pub(crate) fn folder_end(name: &[u8]) -> usize
@@ -48,29 +35,19 @@ fn link_start(name: &[u8], text: &[u8]) -> usize {
 }
 
 // How long a name is after a step along a link, and whether there was one. A name that does not fit has no characters.
-#[derive(Drop)]
+#[derive(Clone, Copy)]
 struct Step {
     linked: bool,
     length: usize,
 }
 
-// One step along a link, if the name that stands at the start of `name` is one.
-fn follow(name: &mut [u8], length: usize) -> Step
+// One step along a link, whose text is known, from the name that stands at the start of `name`.
+fn step_to(name: &mut [u8], length: usize, text: &[u8]) -> Step
     requires { IsPrefixLen length name.old }
     ensures { IsPrefixLen result.length name.new }
 {
-    let mut text = io::buffer();
-    let path = ended(&name[..length]);
-    let got = libc::readlink(&path, &mut text);
-    let size = io::count(got, &text);
-    if got <= 0 {
-        return Step {
-            linked: false,
-            length: length,
-        };
-    }
-    let at = link_start(&name[..length], &text[..size]);
-    let end = put_text(name, at, &text[..size]);
+    let at = link_start(&name[..length], text);
+    let end = put_text(name, at, text);
     if name.len() < end {
         return Step {
             linked: false,
@@ -83,14 +60,38 @@ fn follow(name: &mut [u8], length: usize) -> Step
     }
 }
 
+// The text of a link.
+fn link_text(rt: HostRuntime, name: &[u8]) -> std::io::Result<String> {
+    Ok(fs::read_link(&rt, path_of(name)?)?.into_string())
+}
+
+// One step along a link, if the name that stands at the start of `name` is one. The system says of another name that it is
+// none. A link whose text cannot be had, because there is no memory for it or it is no UTF-8, leads to no name.
+fn follow(rt: HostRuntime, name: &mut [u8], length: usize) -> Step
+    requires { IsPrefixLen length name.old }
+    ensures { IsPrefixLen result.length name.new }
+{
+    match link_text(rt, &name[..length]) {
+        Ok(text) => step_to(name, length, text.as_bytes()),
+        Err(error) if error.raw_os_error().is_some() => Step {
+            linked: false,
+            length: length,
+        },
+        Err(_) => Step {
+            linked: false,
+            length: 0,
+        },
+    }
+}
+
 // Puts the name of the file that an argument leads to, and answers its length, 0 if it is missing, empty or too long.
-pub(crate) fn put_target(name: &mut [u8], index: usize) -> usize
+pub(crate) fn put_target(rt: HostRuntime, name: &mut [u8], index: usize) -> usize
     ensures { IsPrefixLen result name.new }
 {
-    let mut size = os::arg(index, name);
+    let mut size = put_argument(rt, name, index);
     let mut left = LINKS;
     while 0 < left {
-        let step = follow(name, size);
+        let step = follow(rt, name, size);
         size = step.length;
         if !step.linked {
             break;
@@ -100,12 +101,18 @@ pub(crate) fn put_target(name: &mut [u8], index: usize) -> usize
     size
 }
 
+// Four bytes that no other process has, or zeros where the system has none to give.
+fn random_bytes(rt: HostRuntime) -> [u8; 4] {
+    let mut random = [0u8; 4];
+    let _ = rt.fill_bytes(&mut random);
+    random
+}
+
 // Puts the name of a file in a folder, which no other process takes, and answers its length, 0 if it does not fit.
-pub(crate) fn put_beside(out: &mut [u8], folder: &[u8]) -> usize
+pub(crate) fn put_beside(rt: HostRuntime, out: &mut [u8], folder: &[u8]) -> usize
     ensures { IsPrefixLen result out.new }
 {
-    let mut random = [0u8; 4];
-    libc::getentropy(&mut random);
+    let random = random_bytes(rt);
     let after_folder = put_text(out, 0, folder);
     let after_word = put_text(out, after_folder, b".part-");
     let after_first = put_hex2(out, after_word, random[0]);

@@ -1,12 +1,15 @@
 // What the system tells of a file.
-ghost use Rattle.libc.specs.Io.{Ended};
+use console::path_of;
+use std::fs;
+use std::os::unix::fs::MetadataExt;
 
-use crate::names::ended;
-use libc::types::{stat, timespec};
-use libc::{PATH_MAX, S_IFMT, S_IFREG};
+// The bits of a mode that say what kind of file it is, and those of a file of bytes.
+const KIND: u32 = 0o170000;
+
+const REGULAR: u32 = 0o100000;
 
 // Which file it is, and its mode; a mode of 0 if there is none.
-#[derive(Drop)]
+#[derive(Clone, Copy)]
 pub(crate) struct Known {
     device: u64,
     inode: u64,
@@ -16,7 +19,7 @@ pub(crate) struct Known {
 impl Known {
     // Whether it is a file of bytes, and no folder, device or pipe.
     pub(crate) fn is_regular(self) -> bool {
-        self.mode & S_IFMT == S_IFREG
+        self.mode & KIND == REGULAR
     }
 
     // Whether two names lead to one file.
@@ -25,53 +28,24 @@ impl Known {
     }
 }
 
-// Asks for the file at a path, through links. If there is none, what was known before stays: the system fills nothing in.
-fn look(path: &[u8; PATH_MAX], before: stat) -> stat
-    requires { Ended path.now }
-{
-    let mut known = before;
-    libc::stat(path, &mut known);
-    known
+// Asks for the file at a path, through links.
+fn look(rt: HostRuntime, name: &[u8]) -> std::io::Result<Known> {
+    let metadata = fs::metadata(&rt, path_of(name)?)?;
+    Ok(Known {
+        device: metadata.dev(),
+        inode: metadata.ino(),
+        mode: metadata.mode(),
+    })
 }
 
-fn nothing() -> stat {
-    let never = timespec {
-        tv_sec: 0,
-        tv_nsec: 0,
-    };
-    stat {
-        st_dev: 0,
-        st_ino: 0,
-        st_nlink: 0,
-        st_mode: 0,
-        st_uid: 0,
-        st_gid: 0,
-        __pad: 0,
-        st_rdev: 0,
-        st_size: 0,
-        st_blksize: 0,
-        st_blocks: 0,
-        st_atim: never,
-        st_mtim: never,
-        st_ctim: never,
-        __unused: [0; 3],
-    }
-}
-
-// The file that a name leads to. A name that is too long for the system leads to none.
-pub(crate) fn known_file(name: &[u8]) -> Known {
-    if PATH_MAX <= name.len() {
-        return Known {
+// The file that a name leads to. A name that the system does not take leads to none.
+pub(crate) fn known_file(rt: HostRuntime, name: &[u8]) -> Known {
+    match look(rt, name) {
+        Ok(known) => known,
+        Err(_) => Known {
             device: 0,
             inode: 0,
             mode: 0,
-        };
-    }
-    let path = ended(name);
-    let known = look(&path, nothing());
-    Known {
-        device: known.st_dev,
-        inode: known.st_ino,
-        mode: known.st_mode,
+        },
     }
 }

@@ -17,6 +17,7 @@ mod lines; // lines.rt: the run, with its lines
 
 // Shows the run of an image, says how it ended, and answers its status. If its lines cannot be written nothing is said of it.
 fn show_image(
+    rt: HostRuntime,
     index: usize,
     view: View,
     goal: Goal,
@@ -27,18 +28,19 @@ fn show_image(
     ensures value { result ≡ first_of failed.new (run_status goal count image.old) }
     ensures failure_stays { FailureStays failed.old failed.new }
 {
-    let ended = show_run(view, count, image, failed);
-    wipe_progress();
+    let ended = show_run(rt, view, count, image, failed);
+    wipe_progress(rt);
     if *failed != 0 {
         return *failed;
     }
-    let status = say_ending(index, goal, ended, image, failed);
+    let status = say_ending(rt, index, goal, ended, image, failed);
     first_of(*failed, status)
 }
 
 // The same of the image that an argument names. It is read into `input` and run in `image`, so that `input` is left as it was
 // read.
 fn show_argument(
+    rt: HostRuntime,
     index: usize,
     view: View,
     goal: Goal,
@@ -51,14 +53,14 @@ fn show_argument(
     ensures status_value { result.status ≡ first_of failed.new (run_status goal count (take result.size input.new)) }
     ensures failure_stays { FailureStays failed.old failed.new }
 {
-    let size = read_two(index, input, image, failed);
+    let size = read_two(rt, index, input, image, failed);
     if *failed != 0 {
         return Done {
             size: size,
             status: *failed,
         };
     }
-    let status = show_image(index, view, goal, count, &mut image[..size], failed);
+    let status = show_image(rt, index, view, goal, count, &mut image[..size], failed);
     Done {
         size: size,
         status: status,
@@ -66,11 +68,12 @@ fn show_argument(
 }
 
 // The same, with room for the image.
-pub fn show_input(index: usize, view: View, goal: Goal, count: u64) -> u8 {
+pub fn show_input(rt: HostRuntime, index: usize, view: View, goal: Goal, count: u64) -> u8 {
     let mut input = image_buffer();
     let mut image = image_buffer();
     let mut failed: u8 = 0;
     let done = show_argument(
+        rt,
         index,
         view,
         goal,

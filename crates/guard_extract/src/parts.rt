@@ -13,12 +13,13 @@ use manual::{Lines, Machine};
 // Few enough that the line at the terminal is renewed several times a second.
 const PART: u64 = 5000000;
 
-fn show(made: u64) {
-    show_progress(b"sealed", made, b"steps");
+fn show(rt: HostRuntime, made: u64) {
+    show_progress(rt, b"sealed", made, b"steps");
 }
 
 // A run of at most `steps` steps, with idle lines and some addresses guarded against reads.
 pub(crate) fn guard_on(
+    rt: HostRuntime,
     start: Machine,
     steps: u64,
     sealed: &[u8; MAP_SIZE],
@@ -53,7 +54,7 @@ pub(crate) fn guard_on(
                 return guarded;
             }
         }
-        show(made);
+        show(rt, made);
     }
     guarded_part(machine, made, steps, Lines::idle(), sealed, &none, image)
 }

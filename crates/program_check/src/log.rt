@@ -7,7 +7,8 @@ ghost use Rattle.program_check.specs.Inner.Ahead.{most_held, part_end, another};
 ghost use Rattle.program_check.specs.Inner.Turns.{part_in, added, Goes, More, Ends};
 
 use console::{
-    close_input, note_failure, open_input, put_input_name, show_progress, wipe_progress,
+    Input, close_input, note_failure, open_input, put_input_name, say_why, show_progress,
+    wipe_progress,
 };
 use laws::answers::*;
 use statuses::FAILED;
@@ -32,7 +33,8 @@ struct Turn {
 
 // Reads behind what was kept, and answers how much there is then: no more than before if the log has ended.
 fn read_more(
-    descriptor: i32,
+    rt: HostRuntime,
+    log: &mut Input,
     shown: &[u8],
     kept: usize,
     buffer: &mut [u8],
@@ -43,14 +45,14 @@ fn read_more(
     ensures buffer_unchanged { take kept buffer.new ≡ take kept buffer.old }
     ensures failure_stays { FailureStays failed.old failed.new }
 {
-    let got = libc::read(descriptor, &mut buffer[kept..]);
-    if got < 0 {
-        os::fail(shown);
-        note_failure(FAILED, failed);
-        return kept;
+    match log.read(&mut buffer[kept..]) {
+        Ok(more) => kept + more,
+        Err(error) => {
+            say_why(rt, shown, error);
+            note_failure(FAILED, failed);
+            kept
+        }
     }
-    let more = io::count(got, &buffer[kept..]);
-    kept + more
 }
 
 // The most characters after the last LF of a part that are held back for the next one.
@@ -105,7 +107,7 @@ fn tally(lines: u64, part: Part) -> Found
     let last = part.last;
     Found {
         answer: part.answer,
-        lines: std::num::wrapping_add_u64(lines, part.lines as u64),
+        lines: lines.wrapping_add(part.lines as u64),
         last: last,
     }
 }
@@ -139,7 +141,8 @@ fn check_read(
 
 // Reads a part and checks it. If it cannot be read nothing more is checked.
 fn check_some(
-    descriptor: i32,
+    rt: HostRuntime,
+    log: &mut Input,
     shown: &[u8],
     found: Found,
     kept: usize,
@@ -153,7 +156,7 @@ fn check_some(
     ensures failed_after { result.more ≡ true → failed.new ≡ 0 }
     ensures failure_stays { FailureStays failed.old failed.new }
 {
-    let size = read_more(descriptor, shown, kept, buffer, failed);
+    let size = read_more(rt, log, shown, kept, buffer, failed);
     if *failed != 0 {
         return Turn {
             found: found,
@@ -164,17 +167,23 @@ fn check_some(
     check_read(found, kept, size, size == kept, buffer, copy)
 }
 
-fn tell_progress(lines: u64) {
-    show_progress(b"check", lines, b"lines");
+fn tell_progress(rt: HostRuntime, lines: u64) {
+    show_progress(rt, b"check", lines, b"lines");
 }
 
 // Reads the whole log and checks it, or stops at its first bad entry: there is a text, the one that was read, of which this is
 // the check, whatever follows or if nothing does. The count of rounds ends the loop for the proof alone.
-fn check_from(descriptor: i32, shown: &[u8], copy: &mut [u8], failed: &mut u8) -> Found
+fn check_from(
+    rt: HostRuntime,
+    log: &mut Input,
+    shown: &[u8],
+    copy: &mut [u8],
+    failed: &mut u8,
+) -> Found
     ensures ends { failed.new ≡ 0 → Ends copy.old result copy.new }
     ensures failure_stays { FailureStays failed.old failed.new }
 {
-    let mut buffer = io::large_buffer();
+    let mut buffer = [0u8; 65536];
     let mut found = Found {
         answer: NOT_REFUSED,
         lines: 0,
@@ -183,13 +192,13 @@ fn check_from(descriptor: i32, shown: &[u8], copy: &mut [u8], failed: &mut u8) -
     let mut kept: usize = 0;
     let mut turns: u64 = 18446744073709551615;
     while 0 < turns {
-        let turn = check_some(descriptor, shown, found, kept, &mut buffer, copy, failed);
+        let turn = check_some(rt, log, shown, found, kept, &mut buffer, copy, failed);
         found = turn.found;
         kept = turn.kept;
         if !turn.more {
             return found;
         }
-        tell_progress(found.lines);
+        tell_progress(rt, found.lines);
         turns -= 1;
     }
     note_failure(FAILED, failed);
@@ -197,22 +206,23 @@ fn check_from(descriptor: i32, shown: &[u8], copy: &mut [u8], failed: &mut u8) -
 }
 
 // Checks the log that an argument names.
-pub(crate) fn check_log(index: usize, copy: &mut [u8], failed: &mut u8) -> Found
+pub(crate) fn check_log(rt: HostRuntime, index: usize, copy: &mut [u8], failed: &mut u8) -> Found
     ensures ends { failed.new ≡ 0 → Ends copy.old result copy.new }
     ensures failure_stays { FailureStays failed.old failed.new }
 {
-    let descriptor = open_input(index, failed);
-    let mut name = io::buffer();
-    let size = put_input_name(&mut name, index);
-    if *failed != 0 {
-        return Found {
+    match open_input(rt, index, failed) {
+        None => Found {
             answer: NOT_REFUSED,
             lines: 0,
             last: Last::Start,
-        };
+        },
+        Some(mut log) => {
+            let mut name = [0u8; 4096];
+            let size = put_input_name(rt, &mut name, index);
+            let found = check_from(rt, &mut log, &name[..size], copy, failed);
+            wipe_progress(rt);
+            close_input(log);
+            found
+        }
     }
-    let found = check_from(descriptor, &name[..size], copy, failed);
-    wipe_progress();
-    close_input(descriptor);
-    found
 }

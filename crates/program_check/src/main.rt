@@ -24,7 +24,8 @@ ghost use Rattle.program_check.specs.Concluded.{Concludes, Notes};
 ghost use Rattle.trace_line.specs.Lines.{longest_line};
 
 use console::{
-    argument_is, hand_over, names_from, note_failure, read_two, refuse, say_of, write_output,
+    argument_count, argument_is, hand_over, names_from, note_failure, read_two, refuse, say_of,
+    write_output,
 };
 use console_ending::say_refused;
 use laws::answers::*;
@@ -40,25 +41,25 @@ use trace_text::{LONGEST_FINDING, LONGEST_VERDICT, View, put_finding, put_verdic
 
 mod log; // log.rt: a log, read and checked part by part
 
-fn write_verdict(answer: u8, line: u64, right: &[u8], failed: &mut u8)
+fn write_verdict(rt: HostRuntime, answer: u8, line: u64, right: &[u8], failed: &mut u8)
     requires { length right.now ≤ longest_line }
     ensures { FailureStays failed.old failed.new }
 {
     let mut text = [0u8; LONGEST_VERDICT];
     let end = put_verdict(&mut text, 0, answer, line, right);
-    write_output(&text[..end], failed);
+    write_output(rt, &text[..end], failed);
 }
 
-fn say_finding(index: usize, answer: u8, number: u64, failed: &mut u8)
+fn say_finding(rt: HostRuntime, index: usize, answer: u8, number: u64, failed: &mut u8)
     ensures { FailureStays failed.old failed.new }
 {
     let mut text = [0u8; LONGEST_FINDING];
     let size = put_finding(&mut text, 0, answer, number);
-    say_of(index, &text[..size], failed);
+    say_of(rt, index, &text[..size], failed);
 }
 
 // Why no step can be made from the last line, where none can be.
-fn say_stuck(index: usize, ended: Ended, copy: &[u8], failed: &mut u8)
+fn say_stuck(rt: HostRuntime, index: usize, ended: Ended, copy: &[u8], failed: &mut u8)
     ensures { FailureStays failed.old failed.new }
 {
     let reason = ended.reason;
@@ -67,75 +68,96 @@ fn say_stuck(index: usize, ended: Ended, copy: &[u8], failed: &mut u8)
     }
     let mut text = [0u8; LONGEST_SENTENCE];
     let size = put_sentence(&mut text, 0, Goal::Unnamed, ended, copy);
-    say_of(index, &text[..size], failed);
+    say_of(rt, index, &text[..size], failed);
 }
 
 // The line that would have followed; where no step can be made, a sentence says why.
-fn show_right(index: usize, line: u64, last: Last, copy: &mut [u8], failed: &mut u8)
+fn show_right(
+    rt: HostRuntime,
+    index: usize,
+    line: u64,
+    last: Last,
+    copy: &mut [u8],
+    failed: &mut u8,
+)
     ensures { FailureStays failed.old failed.new }
 {
     match last {
-        Last::Start => write_verdict(STRAY_ENTRY, line, b"", failed),
+        Last::Start => write_verdict(rt, STRAY_ENTRY, line, b"", failed),
         Last::After(machine) => {
             let mut right = [0u8; LONGEST_LINE];
             let shown = put_steps(&mut right, View::States, machine, 1, copy);
             let size = shown.size;
             let ended = shown.ended;
-            say_stuck(index, ended, copy, failed);
-            write_verdict(STRAY_ENTRY, line, &right[..size], failed);
+            say_stuck(rt, index, ended, copy, failed);
+            write_verdict(rt, STRAY_ENTRY, line, &right[..size], failed);
         }
     }
 }
 
 // What is shown of a log that is not accepted.
-fn show_bad(index: usize, status: u8, found: Found, copy: &mut [u8], failed: &mut u8)
+fn show_bad(
+    rt: HostRuntime,
+    index: usize,
+    status: u8,
+    found: Found,
+    copy: &mut [u8],
+    failed: &mut u8,
+)
     ensures { FailureStays failed.old failed.new }
 {
-    let bad = std::num::wrapping_add_u64(found.lines, 1);
-    say_finding(index, status, bad, failed);
+    let bad = found.lines.wrapping_add(1);
+    say_finding(rt, index, status, bad, failed);
     if status == STRAY_ENTRY {
         let last = found.last;
-        show_right(index, bad, last, copy, failed);
+        show_right(rt, index, bad, last, copy, failed);
         return;
     }
-    write_verdict(status, bad, b"", failed);
+    write_verdict(rt, status, bad, b"", failed);
 }
 
 // Shows what was found in a log, by its status.
-fn show_found(index: usize, status: u8, found: Found, copy: &mut [u8], failed: &mut u8)
+fn show_found(
+    rt: HostRuntime,
+    index: usize,
+    status: u8,
+    found: Found,
+    copy: &mut [u8],
+    failed: &mut u8,
+)
     ensures { FailureStays failed.old failed.new }
 {
     if status == 0 {
-        say_finding(index, NOT_REFUSED, found.lines, failed);
-        write_verdict(NOT_REFUSED, 0, b"", failed);
+        say_finding(rt, index, NOT_REFUSED, found.lines, failed);
+        write_verdict(rt, NOT_REFUSED, 0, b"", failed);
         return;
     }
-    show_bad(index, status, found, copy, failed);
+    show_bad(rt, index, status, found, copy, failed);
 }
 
 // Shows what was found in a log, and answers its status.
-fn conclude(index: usize, found: Found, copy: &mut [u8], failed: &mut u8) -> u8
+fn conclude(rt: HostRuntime, index: usize, found: Found, copy: &mut [u8], failed: &mut u8) -> u8
     ensures value { result ≡ first_of failed.new (log_status (length copy.old) found.answer found.lines) }
     ensures failure_stays { FailureStays failed.old failed.new }
 {
     let status = log_status(copy.len(), found.answer, found.lines);
-    show_found(index, status, found, copy, failed);
+    show_found(rt, index, status, found, copy, failed);
     first_of(*failed, status)
 }
 
 // Says that an image is none, and answers the status.
-fn refuse_image(index: usize, image: &[u8], failed: &mut u8) -> u8
+fn refuse_image(rt: HostRuntime, index: usize, image: &[u8], failed: &mut u8) -> u8
     ensures value { result ≡ first_of failed.new 1 }
     ensures failure_stays { FailureStays failed.old failed.new }
 {
-    say_refused(index, image, failed);
-    write_verdict(MEMORY_NOT_FULL, 0, b"", failed);
+    say_refused(rt, index, image, failed);
+    write_verdict(rt, MEMORY_NOT_FULL, 0, b"", failed);
     first_of(*failed, MEMORY_NOT_FULL)
 }
 
 // Checks a log on a copy of the image, and answers the status: there is a text, the one that was read, of which this is it.
 // Where the image could not be read nothing is checked.
-fn check_on(image: usize, log: usize, copy: &mut [u8], failed: &mut u8) -> u8
+fn check_on(rt: HostRuntime, image: usize, log: usize, copy: &mut [u8], failed: &mut u8) -> u8
     ensures concludes { Concludes copy.old failed.new result }
     ensures failure_stays { FailureStays failed.old failed.new }
 {
@@ -143,18 +165,19 @@ fn check_on(image: usize, log: usize, copy: &mut [u8], failed: &mut u8) -> u8
         return *failed;
     }
     if copy.len() != 65536 {
-        return refuse_image(image, copy, failed);
+        return refuse_image(rt, image, copy, failed);
     }
-    let found = check_log(log, copy, failed);
+    let found = check_log(rt, log, copy, failed);
     if *failed != 0 {
         return *failed;
     }
-    conclude(log, found, copy, failed)
+    conclude(rt, log, found, copy, failed)
 }
 
 // Checks a log on the image, which is read again for each, and notes the status: of several logs the first that is not 0
 // stays. The image is left in `input` as it was read, and the log is checked on a copy; the answer is its size.
 fn check_argument(
+    rt: HostRuntime,
     image: usize,
     log: usize,
     input: &mut [u8],
@@ -166,14 +189,14 @@ fn check_argument(
     ensures notes { Notes status.old (take result input.new) failed.new status.new }
     ensures failure_stays { FailureStays failed.old failed.new }
 {
-    let size = read_two(image, input, copy, failed);
-    let own = check_on(image, log, &mut copy[..size], failed);
+    let size = read_two(rt, image, input, copy, failed);
+    let own = check_on(rt, image, log, &mut copy[..size], failed);
     note_failure(own, status);
     size
 }
 
 // Checks the logs from an index on, each with a cell of its own; the image stands before them.
-fn check_all(first: usize, count: usize) -> u8
+fn check_all(rt: HostRuntime, first: usize, count: usize) -> u8
     requires { 1 ≤ first }
 {
     let mut input = image_buffer();
@@ -184,6 +207,7 @@ fn check_all(first: usize, count: usize) -> u8
     while index < count {
         failed = 0;
         check_argument(
+            rt,
             first - 1,
             index,
             &mut input,
@@ -196,18 +220,21 @@ fn check_all(first: usize, count: usize) -> u8
     status
 }
 
-fn check_by_arguments() -> u8 {
-    let image = names_from(1);
-    let count = os::arg_count();
+fn check_by_arguments(rt: HostRuntime) -> u8 {
+    let image = names_from(rt, 1);
+    let count = argument_count(rt);
     if image == 0 || count < image + 2 {
-        return refuse(b"check: give an image and a log, or several logs; ./run check --help\n");
+        return refuse(
+            rt,
+            b"check: give an image and a log, or several logs; ./run check --help\n",
+        );
     }
-    if argument_is(image, b"-") {
-        return refuse(b"check: IMAGE is the name of a file\n");
+    if argument_is(rt, image, b"-") {
+        return refuse(rt, b"check: IMAGE is the name of a file\n");
     }
-    check_all(image + 1, count)
+    check_all(rt, image + 1, count)
 }
 
-fn main() {
-    hand_over(check_by_arguments());
+fn main(rt: HostRuntime) {
+    hand_over(check_by_arguments(rt));
 }

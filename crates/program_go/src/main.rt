@@ -41,16 +41,17 @@ use statuses::{Goal, WRONG_USAGE, first_of};
 
 mod running; // running.rt: the run of a file
 
-fn print_line(ended: Ended, failed: &mut u8)
+fn print_line(rt: HostRuntime, ended: Ended, failed: &mut u8)
     ensures { FailureStays failed.old failed.new }
 {
     let mut text = [0u8; LONGEST_LINE];
     let size = put_line(&mut text, 0, ended);
-    write_output(&text[..size], failed);
+    write_output(rt, &text[..size], failed);
 }
 
 // Keeps a file that a run left. `input` is what was read: only if its status is 0, and only what the definition says.
 fn keep(
+    rt: HostRuntime,
     after: usize,
     goal: Goal,
     steps: u64,
@@ -64,11 +65,12 @@ fn keep(
     ensures value { result ≡ first_of failed.new status }
     ensures failure_stays { FailureStays failed.old failed.new }
 {
-    replace(after, status, file, failed)
+    replace(rt, after, status, file, failed)
 }
 
 // Runs what was read, in the copy of it that stands at the start of `image`, and keeps what it leaves there.
 fn go_file(
+    rt: HostRuntime,
     names: Names,
     goal: Goal,
     steps: u64,
@@ -83,16 +85,17 @@ fn go_file(
     let opened = open(input);
     let size = opened.size;
     let start = opened.start;
-    let ended = run_from(start, steps, &mut image[..size]);
-    wipe_progress();
-    print_line(ended, failed);
-    let status = say_ending(names.image, goal, ended, &image[..size], failed);
+    let ended = run_from(rt, start, steps, &mut image[..size]);
+    wipe_progress(rt);
+    print_line(rt, ended, failed);
+    let status = say_ending(rt, names.image, goal, ended, &image[..size], failed);
     if first_of(*failed, status) != 0 {
-        return not_written(names.after, status, failed);
+        return not_written(rt, names.after, status, failed);
     }
     let machine = ended.machine;
     let after_size = put_after(image, goal, machine);
     keep(
+        rt,
         names.after,
         goal,
         steps,
@@ -105,6 +108,7 @@ fn go_file(
 
 // Reads the image into both buffers, and runs it in the second.
 fn go_argument(
+    rt: HostRuntime,
     names: Names,
     goal: Goal,
     steps: u64,
@@ -115,43 +119,46 @@ fn go_argument(
     requires { (length input.old ≤ length image.old) × (full_memory + longest_line ≤ length image.old) }
     ensures { result.status ≡ first_of failed.new (go_status goal steps (take result.size input.new)) }
 {
-    let size = read_and_test(names, input, image, failed);
+    let size = read_and_test(rt, names, input, image, failed);
     if *failed != 0 {
         return Done {
             size: size,
             status: *failed,
         };
     }
-    let status = go_file(names, goal, steps, &input[..size], image, failed);
+    let status = go_file(rt, names, goal, steps, &input[..size], image, failed);
     Done {
         size: size,
         status: status,
     }
 }
 
-fn go(names: Names, steps: u64, goal: Goal) -> u8 {
-    if is_same_file(names.after, names.image) {
-        return refuse(b"go: AFTER is IMAGE, which would be lost; name another file\n");
+fn go(rt: HostRuntime, names: Names, steps: u64, goal: Goal) -> u8 {
+    if is_same_file(rt, names.after, names.image) {
+        return refuse(
+            rt,
+            b"go: AFTER is IMAGE, which would be lost; name another file\n",
+        );
     }
     let mut input = image_buffer();
     let mut image = image_buffer();
     let mut failed = 0;
-    let done = go_argument(names, goal, steps, &mut input, &mut image, &mut failed);
+    let done = go_argument(rt, names, goal, steps, &mut input, &mut image, &mut failed);
     done.status
 }
 
-fn go_by_arguments() -> u8 {
-    let names = image_and_after(3);
+fn go_by_arguments(rt: HostRuntime) -> u8 {
+    let names = image_and_after(rt, 3);
     if names.image == 0 {
-        return refuse(b"go: give STEPS STOP IMAGE AFTER; ./run go --help\n");
+        return refuse(rt, b"go: give STEPS STOP IMAGE AFTER; ./run go --help\n");
     }
-    let asked = steps_and_stop(b"go", 1);
+    let asked = steps_and_stop(rt, b"go", 1);
     match asked {
-        Asked::For(steps, goal) => go(names, steps, goal),
+        Asked::For(steps, goal) => go(rt, names, steps, goal),
         Asked::Nothing => WRONG_USAGE,
     }
 }
 
-fn main() {
-    hand_over(go_by_arguments());
+fn main(rt: HostRuntime) {
+    hand_over(go_by_arguments(rt));
 }

@@ -15,12 +15,12 @@ use manual::{Ended, Lines, Machine};
 // Few enough that the line at the terminal is renewed several times a second.
 const PART: u64 = 10000000;
 
-fn show(made: u64) {
-    show_progress(b"go", made, b"steps");
+fn show(rt: HostRuntime, made: u64) {
+    show_progress(rt, b"go", made, b"steps");
 }
 
 // A run of at most `steps` steps, with idle lines.
-fn run_on(start: Machine, steps: u64, image: &mut [u8]) -> Ended
+fn run_on(rt: HostRuntime, start: Machine, steps: u64, image: &mut [u8]) -> Ended
     ensures { Gives (long_run (length image.old) steps idle start) image.old result image.new }
 {
     let mut machine = start;
@@ -33,26 +33,26 @@ fn run_on(start: Machine, steps: u64, image: &mut [u8]) -> Ended
         }
         machine = ended.machine;
         made += PART;
-        show(made);
+        show(rt, made);
     }
     let last = long_run(machine, steps - made, Lines::idle(), image);
     let reason = last.reason;
     Ended::new(reason, made + last.steps, last.machine)
 }
 
-fn run_image(steps: u64, image: &mut [u8]) -> Ended
+fn run_image(rt: HostRuntime, steps: u64, image: &mut [u8]) -> Ended
     ensures { Gives (long_image_run steps (length image.old)) image.old result image.new }
 {
     let machine = start_image(image);
-    run_on(machine, steps, image)
+    run_on(rt, machine, steps, image)
 }
 
 // A run of at most `steps` steps from where a file begins, with idle lines.
-pub(crate) fn run_from(start: Start, steps: u64, image: &mut [u8]) -> Ended
+pub(crate) fn run_from(rt: HostRuntime, start: Start, steps: u64, image: &mut [u8]) -> Ended
     ensures { Gives (run_from start steps (length image.old)) image.old result image.new }
 {
     match start {
-        Start::Image => run_image(steps, image),
-        Start::From(machine) => run_on(machine, steps, image),
+        Start::Image => run_image(rt, steps, image),
+        Start::From(machine) => run_on(rt, machine, steps, image),
     }
 }

@@ -14,18 +14,21 @@
 // What is written and what is said are promised by the crates tape_moving and tape_loading; the status is promised by console_tapes.
 #![tactic(auto)]
 
-use console::{hand_over, names_from, refuse};
+use console::{argument_count, hand_over, names_from, refuse};
 use console_tapes::move_argument;
 use tape_loading::Format;
 
-fn hex_by_arguments() -> u8 {
-    let index = names_from(1);
-    if index == 0 || index + 1 < os::arg_count() {
-        return refuse(b"hex: name one tape, or none for standard input; ./run hex --help\n");
+fn hex_by_arguments(rt: HostRuntime) -> u8 {
+    let index = names_from(rt, 1);
+    if index == 0 || index + 1 < argument_count(rt) {
+        return refuse(
+            rt,
+            b"hex: name one tape, or none for standard input; ./run hex --help\n",
+        );
     }
-    move_argument(index, Format::Tape)
+    move_argument(rt, index, Format::Tape)
 }
 
-fn main() {
-    hand_over(hex_by_arguments());
+fn main(rt: HostRuntime) {
+    hand_over(hex_by_arguments(rt));
 }

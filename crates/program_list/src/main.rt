@@ -18,7 +18,8 @@ ghost use Rattle.console.specs.Failing.{FailureStays};
 ghost use Rattle.listing.specs.Listing.{listing_into};
 
 use console::{
-    Done, address_argument, hand_over, names_from, read_input, refuse, say_of, write_output,
+    Done, address_argument, argument_count, hand_over, names_from, read_input, refuse, say_of,
+    write_output,
 };
 use console_ending::say_refused;
 use laws::answers::*;
@@ -35,15 +36,16 @@ fn text_buffer() -> [u8; 262144]
 }
 
 // What the answer means, if nothing was listed.
-fn explain(index: usize, answer: u8, image: &[u8], failed: &mut u8)
+fn explain(rt: HostRuntime, index: usize, answer: u8, image: &[u8], failed: &mut u8)
     ensures { FailureStays failed.old failed.new }
 {
     if answer == MEMORY_NOT_FULL {
-        say_refused(index, image, failed);
+        say_refused(rt, index, image, failed);
         return;
     }
     if answer == FIRST_ABOVE_LAST {
         say_of(
+            rt,
             index,
             b"refused: the first address is above the last\n",
             failed,
@@ -52,6 +54,7 @@ fn explain(index: usize, answer: u8, image: &[u8], failed: &mut u8)
     }
     if answer == NO_ROOM {
         say_of(
+            rt,
             index,
             b"refused: that is more than 262144 characters; list it in parts\n",
             failed,
@@ -61,6 +64,7 @@ fn explain(index: usize, answer: u8, image: &[u8], failed: &mut u8)
 
 // Lists an image in `text`, and answers the status.
 fn list_image(
+    rt: HostRuntime,
     index: usize,
     first: u16,
     last: u16,
@@ -73,13 +77,14 @@ fn list_image(
 {
     let delivery = list(image, first, last, text);
     let size = delivery.size;
-    explain(index, delivery.answer, image, failed);
-    write_output(&text[..size], failed);
+    explain(rt, index, delivery.answer, image, failed);
+    write_output(rt, &text[..size], failed);
     first_of(*failed, delivery.answer)
 }
 
 // The same of the image that an argument names, which is read into `input`.
 fn list_argument(
+    rt: HostRuntime,
     index: usize,
     first: u16,
     last: u16,
@@ -90,14 +95,14 @@ fn list_argument(
     ensures status_value { result.status ≡ first_of failed.new (listing_into (take result.size input.new) first last text.old).answer }
     ensures failure_stays { FailureStays failed.old failed.new }
 {
-    let size = read_input(index, input, failed);
+    let size = read_input(rt, index, input, failed);
     if *failed != 0 {
         return Done {
             size: size,
             status: *failed,
         };
     }
-    let status = list_image(index, first, last, &input[..size], text, failed);
+    let status = list_image(rt, index, first, last, &input[..size], text, failed);
     Done {
         size: size,
         status: status,
@@ -105,29 +110,33 @@ fn list_argument(
 }
 
 // The same, with room for the image and its listing.
-fn list_input(index: usize, first: u16, last: u16) -> u8 {
+fn list_input(rt: HostRuntime, index: usize, first: u16, last: u16) -> u8 {
     let mut input = image_buffer();
     let mut text = text_buffer();
     let mut failed: u8 = 0;
-    let done = list_argument(index, first, last, &mut input, &mut text, &mut failed);
+    let done = list_argument(rt, index, first, last, &mut input, &mut text, &mut failed);
     done.status
 }
 
-fn list_by_arguments() -> u8 {
-    let first = address_argument(1);
-    let last = address_argument(2);
+fn list_by_arguments(rt: HostRuntime) -> u8 {
+    let first = address_argument(rt, 1);
+    let last = address_argument(rt, 2);
     if first.next == NOWHERE || last.next == NOWHERE {
         return refuse(
+            rt,
             b"list: give two addresses, the first and the last, as four capital hexadecimal digits each\n",
         );
     }
-    let name = names_from(3);
-    if name == 0 || name + 1 < os::arg_count() {
-        return refuse(b"list: after the two addresses comes one image; ./run list --help\n");
+    let name = names_from(rt, 3);
+    if name == 0 || name + 1 < argument_count(rt) {
+        return refuse(
+            rt,
+            b"list: after the two addresses comes one image; ./run list --help\n",
+        );
     }
-    list_input(name, first.value, last.value)
+    list_input(rt, name, first.value, last.value)
 }
 
-fn main() {
-    hand_over(list_by_arguments());
+fn main(rt: HostRuntime) {
+    hand_over(list_by_arguments(rt));
 }

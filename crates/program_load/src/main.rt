@@ -24,7 +24,7 @@ ghost use Rattle.statuses.specs.Statuses.{first_of};
 ghost use Rattle.console.specs.Failing.{FailureStays};
 ghost use Rattle.tape_loading.specs.Texts.{read_text};
 
-use console::{Done, argument_is, hand_over, names_from, read_two, refuse};
+use console::{Done, argument_count, argument_is, hand_over, names_from, read_two, refuse};
 use console_ending::say_refused;
 use console_files::{can_replace, is_same_file, not_written, replace};
 use console_tapes::{read_tape_input, say_verdict};
@@ -46,40 +46,63 @@ struct Names {
 }
 
 // One answer is about the image, and all others about the tape.
-fn explain(tape: usize, format: Format, verdict: Verdict, image: &[u8], failed: &mut u8)
+fn explain(
+    rt: HostRuntime,
+    tape: usize,
+    format: Format,
+    verdict: Verdict,
+    image: &[u8],
+    failed: &mut u8,
+)
     ensures { FailureStays failed.old failed.new }
 {
     if verdict.answer == MEMORY_NOT_FULL {
-        return say_refused(IMAGE, image, failed);
+        return say_refused(rt, IMAGE, image, failed);
     }
-    say_verdict(tape, format, verdict, failed);
+    say_verdict(rt, tape, format, verdict, failed);
 }
 
 // Keeps a memory. `tape` was laid onto `before`: only if all of it is good, and only what the definition says.
-fn keep(after: usize, tape: &[u8], before: &[u8], answer: u8, memory: &[u8], failed: &mut u8) -> u8
+fn keep(
+    rt: HostRuntime,
+    after: usize,
+    tape: &[u8],
+    before: &[u8],
+    answer: u8,
+    memory: &[u8],
+    failed: &mut u8,
+) -> u8
     requires answer_value { (answer ≡ 0) × ((read_text tape.now before.now).answer ≡ 0) × (memory.now ≡ (read_text tape.now before.now).memory) }
     requires failed_value { failed.old ≡ 0 }
     ensures value { result ≡ first_of failed.new answer }
     ensures failure_stays { FailureStays failed.old failed.new }
 {
-    replace(after, answer, memory, failed)
+    replace(rt, after, answer, memory, failed)
 }
 
 // Lays a tape onto an image, of which `before` is a copy, and keeps the memory only if the whole tape is good.
-fn load_onto(names: Names, tape: &[u8], before: &[u8], image: &mut [u8], failed: &mut u8) -> u8
+fn load_onto(
+    rt: HostRuntime,
+    names: Names,
+    tape: &[u8],
+    before: &[u8],
+    image: &mut [u8],
+    failed: &mut u8,
+) -> u8
     requires { image.old ≡ before.now }
     ensures { result ≡ first_of failed.new (read_text tape.now before.now).answer }
 {
     let verdict = read_text(tape, image);
-    explain(names.tape, format_of(tape), verdict, before, failed);
+    explain(rt, names.tape, format_of(tape), verdict, before, failed);
     if first_of(*failed, verdict.answer) != 0 {
-        return not_written(names.after, verdict.answer, failed);
+        return not_written(rt, names.after, verdict.answer, failed);
     }
-    keep(names.after, tape, before, verdict.answer, image, failed)
+    keep(rt, names.after, tape, before, verdict.answer, image, failed)
 }
 
 // Loads a tape onto the image that is named, which is read into both buffers.
 fn load_image(
+    rt: HostRuntime,
     names: Names,
     tape: &[u8],
     input: &mut [u8],
@@ -89,14 +112,14 @@ fn load_image(
     requires { length input.old ≤ length image.old }
     ensures { result.status ≡ first_of failed.new (read_text tape.now (take result.size input.new)).answer }
 {
-    let size = read_two(IMAGE, input, image, failed);
+    let size = read_two(rt, IMAGE, input, image, failed);
     if *failed != 0 {
         return Done {
             size: size,
             status: *failed,
         };
     }
-    let status = load_onto(names, tape, &input[..size], &mut image[..size], failed);
+    let status = load_onto(rt, names, tape, &input[..size], &mut image[..size], failed);
     Done {
         size: size,
         status: status,
@@ -104,12 +127,13 @@ fn load_image(
 }
 
 // Loads a tape onto zeros.
-fn load_zeros(names: Names, tape: &[u8], failed: &mut u8) -> u8
+fn load_zeros(rt: HostRuntime, names: Names, tape: &[u8], failed: &mut u8) -> u8
     ensures { result ≡ first_of failed.new (read_text tape.now (replicate full_memory 0)).answer }
 {
     let zeros = image_buffer();
     let mut image = image_buffer();
     load_onto(
+        rt,
         names,
         tape,
         &zeros[..FULL_MEMORY],
@@ -119,47 +143,52 @@ fn load_zeros(names: Names, tape: &[u8], failed: &mut u8) -> u8
 }
 
 // Loads a tape that was read.
-fn load_tape(names: Names, onto: bool, tape: &[u8], failed: &mut u8) -> u8 {
+fn load_tape(rt: HostRuntime, names: Names, onto: bool, tape: &[u8], failed: &mut u8) -> u8 {
     if !onto {
-        return load_zeros(names, tape, failed);
+        return load_zeros(rt, names, tape, failed);
     }
     let mut input = image_buffer();
     let mut image = image_buffer();
-    let done = load_image(names, tape, &mut input, &mut image, failed);
+    let done = load_image(rt, names, tape, &mut input, &mut image, failed);
     done.status
 }
 
-fn load(names: Names, onto: bool) -> u8 {
-    if is_same_file(names.after, names.tape) || onto && is_same_file(names.after, IMAGE) {
-        return refuse(b"load: AFTER is TAPE or IMAGE, which would be lost; name another file\n");
+fn load(rt: HostRuntime, names: Names, onto: bool) -> u8 {
+    if is_same_file(rt, names.after, names.tape) || onto && is_same_file(rt, names.after, IMAGE) {
+        return refuse(
+            rt,
+            b"load: AFTER is TAPE or IMAGE, which would be lost; name another file\n",
+        );
     }
     let mut failed = 0;
-    can_replace(names.after, &mut failed);
+    can_replace(rt, names.after, &mut failed);
     if failed != 0 {
         return failed;
     }
     let mut tape = tape_buffer();
-    let size = read_tape_input(names.tape, &mut tape, &mut failed);
+    let size = read_tape_input(rt, names.tape, &mut tape, &mut failed);
     if failed != 0 {
         return failed;
     }
-    load_tape(names, onto, &tape[..size], &mut failed)
+    load_tape(rt, names, onto, &tape[..size], &mut failed)
 }
 
-fn load_by_names(from: usize, onto: bool) -> u8
+fn load_by_names(rt: HostRuntime, from: usize, onto: bool) -> u8
     requires { from ≤ 255 }
 {
-    let tape = names_from(from);
+    let tape = names_from(rt, from);
     let after = tape + 1;
-    if tape == 0 || os::arg_count() != after + 1 {
+    if tape == 0 || argument_count(rt) != after + 1 {
         return refuse(
+            rt,
             b"load: give TAPE AFTER, and before them --onto IMAGE or nothing; ./run load --help\n",
         );
     }
-    if argument_is(after, b"-") || argument_is(after, b"") {
-        return refuse(b"load: AFTER is the name of a file\n");
+    if argument_is(rt, after, b"-") || argument_is(rt, after, b"") {
+        return refuse(rt, b"load: AFTER is the name of a file\n");
     }
     load(
+        rt,
         Names {
             tape: tape,
             after: after,
@@ -168,13 +197,13 @@ fn load_by_names(from: usize, onto: bool) -> u8
     )
 }
 
-fn load_by_arguments() -> u8 {
-    if argument_is(1, b"--onto") {
-        return load_by_names(IMAGE + 1, true);
+fn load_by_arguments(rt: HostRuntime) -> u8 {
+    if argument_is(rt, 1, b"--onto") {
+        return load_by_names(rt, IMAGE + 1, true);
     }
-    load_by_names(1, false)
+    load_by_names(rt, 1, false)
 }
 
-fn main() {
-    hand_over(load_by_arguments());
+fn main(rt: HostRuntime) {
+    hand_over(load_by_arguments(rt));
 }

@@ -18,7 +18,8 @@ ghost use Rattle.console.specs.Failing.{FailureStays};
 ghost use Rattle.tape_punching.specs.Punching.{tape_into};
 
 use console::{
-    Done, address_argument, hand_over, names_from, read_input, refuse, say_of, write_output,
+    Done, address_argument, argument_count, hand_over, names_from, read_input, refuse, say_of,
+    write_output,
 };
 use console_ending::say_refused;
 use laws::answers::*;
@@ -29,14 +30,15 @@ use tape_punching::punch;
 use text_reading::NOWHERE;
 
 // What the answer means, if nothing was punched. The longest tape has 166,588 characters, so that there is always room.
-fn explain(index: usize, answer: u8, image: &[u8], failed: &mut u8)
+fn explain(rt: HostRuntime, index: usize, answer: u8, image: &[u8], failed: &mut u8)
     ensures { FailureStays failed.old failed.new }
 {
     if answer == MEMORY_NOT_FULL {
-        return say_refused(index, image, failed);
+        return say_refused(rt, index, image, failed);
     }
     if answer == FIRST_ABOVE_LAST {
         say_of(
+            rt,
             index,
             b"refused: the first address is above the last\n",
             failed,
@@ -46,6 +48,7 @@ fn explain(index: usize, answer: u8, image: &[u8], failed: &mut u8)
 
 // Punches an image into `text`, and prints it.
 fn punch_image(
+    rt: HostRuntime,
     index: usize,
     first: u16,
     last: u16,
@@ -57,13 +60,14 @@ fn punch_image(
 {
     let delivery = punch(image, first, last, text);
     let size = delivery.size;
-    explain(index, delivery.answer, image, failed);
-    write_output(&text[..size], failed);
+    explain(rt, index, delivery.answer, image, failed);
+    write_output(rt, &text[..size], failed);
     first_of(*failed, delivery.answer)
 }
 
 // Punches the image that an argument names. The buffers are lent, so that the promise can name what was read.
 fn punch_input(
+    rt: HostRuntime,
     index: usize,
     first: u16,
     last: u16,
@@ -73,43 +77,47 @@ fn punch_input(
 ) -> Done
     ensures { result.status ≡ first_of failed.new (tape_into (take result.size image.new) first last text.old).answer }
 {
-    let size = read_input(index, image, failed);
+    let size = read_input(rt, index, image, failed);
     if *failed != 0 {
         return Done {
             size: size,
             status: *failed,
         };
     }
-    let status = punch_image(index, first, last, &image[..size], text, failed);
+    let status = punch_image(rt, index, first, last, &image[..size], text, failed);
     Done {
         size: size,
         status: status,
     }
 }
 
-fn punch_stretch(index: usize, first: u16, last: u16) -> u8 {
+fn punch_stretch(rt: HostRuntime, index: usize, first: u16, last: u16) -> u8 {
     let mut image = image_buffer();
     let mut text = tape_buffer();
     let mut failed = 0;
-    let done = punch_input(index, first, last, &mut image, &mut text, &mut failed);
+    let done = punch_input(rt, index, first, last, &mut image, &mut text, &mut failed);
     done.status
 }
 
-fn punch_by_arguments() -> u8 {
-    let first = address_argument(1);
-    let last = address_argument(2);
+fn punch_by_arguments(rt: HostRuntime) -> u8 {
+    let first = address_argument(rt, 1);
+    let last = address_argument(rt, 2);
     if first.next == NOWHERE || last.next == NOWHERE {
         return refuse(
+            rt,
             b"punch: give two addresses, the first and the last, as four capital hexadecimal digits each\n",
         );
     }
-    let index = names_from(3);
-    if index == 0 || index + 1 < os::arg_count() {
-        return refuse(b"punch: after the two addresses comes one image; ./run punch --help\n");
+    let index = names_from(rt, 3);
+    if index == 0 || index + 1 < argument_count(rt) {
+        return refuse(
+            rt,
+            b"punch: after the two addresses comes one image; ./run punch --help\n",
+        );
     }
-    punch_stretch(index, first.value, last.value)
+    punch_stretch(rt, index, first.value, last.value)
 }
 
-fn main() {
-    hand_over(punch_by_arguments());
+fn main(rt: HostRuntime) {
+    hand_over(punch_by_arguments(rt));
 }

@@ -107,5 +107,5 @@ pub(crate) fn judge(before: State, after: State, memory: &mut [u8], expected: &[
     if reason.number() != after.number {
         return Verdict::Answer;
     }
-    compare(stepped.machine, lines, after, check::same(memory, expected))
+    compare(stepped.machine, lines, after, &*memory == expected)
 }

@@ -15,7 +15,9 @@ ghost use Rattle.console.specs.Failing.{FailureStays};
 ghost use Rattle.program_replay.specs.Verdicts.{faults, tally_of, replay_status};
 
 use compare::Verdict;
-use console::{Done, hand_over, names_from, read_input, refuse, say_of, write_output};
+use console::{
+    Done, argument_count, hand_over, names_from, read_input, refuse, say_of, write_output,
+};
 use line::replay_line;
 use replay_list::next_line;
 use statuses::{check_status, first_of};
@@ -83,7 +85,7 @@ const LONGEST_DIFFERENCE: usize = 39;
 const LONGEST_TALLY: usize = 65;
 
 // Names a line that differs, and answers 1 for it.
-fn tell(line: u64, verdict: Verdict, failed: &mut u8) -> u64
+fn tell(rt: HostRuntime, line: u64, verdict: Verdict, failed: &mut u8) -> u64
     ensures value { result ≡ faults verdict }
     ensures upper_bound { result ≤ 1 }
     ensures failure_stays { FailureStays failed.old failed.new }
@@ -97,23 +99,30 @@ fn tell(line: u64, verdict: Verdict, failed: &mut u8) -> u64
     let after_colon = put_text(&mut text, after_line, b": ");
     let word = word_of(verdict);
     let size = put_text(&mut text, after_colon, &word);
-    write_output(&text[..size], failed);
+    write_output(rt, &text[..size], failed);
     1
 }
 
-fn replay(text: &[u8], failed: &mut u8) -> Tally
+// A memory of zeros. The ensures gives only the length, which lending the array as a slice needs.
+fn memory_buffer() -> [u8; 65536]
+    ensures { 65536 ≡ length result }
+{
+    [0; 65536]
+}
+
+fn replay(rt: HostRuntime, text: &[u8], failed: &mut u8) -> Tally
     ensures value { result ≡ tally_of text.now }
     ensures failure_stays { FailureStays failed.old failed.new }
 {
-    let mut memory = io::large_buffer();
-    let mut expected = io::large_buffer();
+    let mut memory = memory_buffer();
+    let mut expected = memory_buffer();
     let mut at: usize = 0;
     let mut lines: u64 = 0;
     let mut differ: u64 = 0;
     while at < text.len() {
         lines += 1;
         let verdict = replay_line(text, at, &mut memory, &mut expected);
-        differ += tell(lines, verdict, failed);
+        differ += tell(rt, lines, verdict, failed);
         at = next_line(text, at);
     }
     Tally {
@@ -130,7 +139,7 @@ fn list_buffer() -> [u8; 2097152]
 }
 
 // The last line, and the status.
-fn conclude(tally: Tally, failed: &mut u8) -> u8
+fn conclude(rt: HostRuntime, tally: Tally, failed: &mut u8) -> u8
     ensures value { result ≡ first_of failed.new (check_status tally.lines tally.differ) }
     ensures failure_stays { FailureStays failed.old failed.new }
 {
@@ -139,53 +148,56 @@ fn conclude(tally: Tally, failed: &mut u8) -> u8
     let after_words = put_text(&mut text, after_lines, b" steps replayed, ");
     let after_differ = put_decimal(&mut text, after_words, tally.differ);
     let size = put_text(&mut text, after_differ, b" differ\n");
-    write_output(&text[..size], failed);
+    write_output(rt, &text[..size], failed);
     first_of(*failed, check_status(tally.lines, tally.differ))
 }
 
 // Makes the steps of a list again, and answers the status. One that fills its buffer is too long.
-fn replay_list(index: usize, text: &[u8], failed: &mut u8) -> u8
+fn replay_list(rt: HostRuntime, index: usize, text: &[u8], failed: &mut u8) -> u8
     ensures value { result ≡ first_of failed.new (replay_status text.now) }
     ensures failure_stays { FailureStays failed.old failed.new }
 {
     if text.len() == 2097152 {
-        say_of(index, b"refused: the list is too long\n", failed);
+        say_of(rt, index, b"refused: the list is too long\n", failed);
         return first_of(*failed, 1);
     }
-    let tally = replay(text, failed);
-    conclude(tally, failed)
+    let tally = replay(rt, text, failed);
+    conclude(rt, tally, failed)
 }
 
 // The same of the list that an argument names, which is read into `input`.
-fn replay_argument(index: usize, input: &mut [u8], failed: &mut u8) -> Done
+fn replay_argument(rt: HostRuntime, index: usize, input: &mut [u8], failed: &mut u8) -> Done
     ensures status_value { result.status ≡ first_of failed.new (replay_status (take result.size input.new)) }
     ensures failure_stays { FailureStays failed.old failed.new }
 {
-    let size = read_input(index, input, failed);
+    let size = read_input(rt, index, input, failed);
     if *failed != 0 {
         return Done {
             size: size,
             status: *failed,
         };
     }
-    let status = replay_list(index, &input[..size], failed);
+    let status = replay_list(rt, index, &input[..size], failed);
     Done {
         size: size,
         status: status,
     }
 }
 
-fn replay_by_arguments() -> u8 {
-    let name = names_from(1);
-    if name == 0 || name + 1 < os::arg_count() {
-        return refuse(b"replay: the only argument is a list; ./run replay --help\n");
+fn replay_by_arguments(rt: HostRuntime) -> u8 {
+    let name = names_from(rt, 1);
+    if name == 0 || name + 1 < argument_count(rt) {
+        return refuse(
+            rt,
+            b"replay: the only argument is a list; ./run replay --help\n",
+        );
     }
     let mut input = list_buffer();
     let mut failed: u8 = 0;
-    let done = replay_argument(name, &mut input, &mut failed);
+    let done = replay_argument(rt, name, &mut input, &mut failed);
     done.status
 }
 
-fn main() {
-    hand_over(replay_by_arguments());
+fn main(rt: HostRuntime) {
+    hand_over(replay_by_arguments(rt));
 }

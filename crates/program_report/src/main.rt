@@ -22,8 +22,8 @@ ghost use Rattle.program_report.specs.Named.{WroteAfter, longest_named};
 ghost use Rattle.sentences.specs.Line.{longest_line};
 
 use console::{
-    address_argument, argument_is, hand_over, names_from, note_failure, put_name, read_two, refuse,
-    write_output,
+    address_argument, argument_count, argument_is, hand_over, names_from, note_failure, put_name,
+    read_two, refuse, write_output,
 };
 use console_ending::say_ending;
 use image::report;
@@ -39,30 +39,44 @@ mod image; // image.rt: the run of an image, and its line
 const LONGEST_NAMED: usize = LONGEST_LINE + 4098;
 
 // Puts the name of an argument after a line of so many characters, in place of its end.
-fn put_after(index: usize, text: &mut [u8], size: usize) -> usize
+fn put_after(rt: HostRuntime, index: usize, text: &mut [u8], size: usize) -> usize
     requires { (0 < size) × (size ≤ longest_line) }
     ensures { WroteAfter text.old (size - 1) text.new result }
 {
     let after_spaces = put_text(text, size - 1, b"  ");
-    let after_name = put_name(text, after_spaces, index);
+    let after_name = put_name(rt, text, after_spaces, index);
     put_byte(text, after_name, b'\n')
 }
 
 // Writes a line of so many characters, with the name after it if there are several.
-fn write_line(index: usize, several: bool, text: &mut [u8], size: usize, failed: &mut u8)
+fn write_line(
+    rt: HostRuntime,
+    index: usize,
+    several: bool,
+    text: &mut [u8],
+    size: usize,
+    failed: &mut u8,
+)
     requires { (0 < size) × (size ≤ longest_line) × (length text.old ≡ longest_named) }
     ensures { FailureStays failed.old failed.new }
 {
     if several {
-        let end = put_after(index, text, size);
-        write_output(&text[..end], failed);
+        let end = put_after(rt, index, text, size);
+        write_output(rt, &text[..end], failed);
         return;
     }
-    write_output(&text[..size], failed);
+    write_output(rt, &text[..size], failed);
 }
 
 // Reports an image that was read, and answers its status; if that failed, it is not run.
-fn report_image(index: usize, several: bool, goal: Goal, image: &mut [u8], failed: &mut u8) -> u8
+fn report_image(
+    rt: HostRuntime,
+    index: usize,
+    several: bool,
+    goal: Goal,
+    image: &mut [u8],
+    failed: &mut u8,
+) -> u8
     ensures value { result ≡ first_of failed.new (image_status goal image.old) }
     ensures failure_stays { FailureStays failed.old failed.new }
 {
@@ -72,14 +86,15 @@ fn report_image(index: usize, several: bool, goal: Goal, image: &mut [u8], faile
     let mut text = [0u8; LONGEST_NAMED];
     let reported = report(image, &mut text);
     let ended = reported.ended;
-    write_line(index, several, &mut text, reported.size, failed);
-    let status = say_ending(index, goal, ended, image, failed);
+    write_line(rt, index, several, &mut text, reported.size, failed);
+    let status = say_ending(rt, index, goal, ended, image, failed);
     first_of(*failed, status)
 }
 
 // Reads the image that an argument names into `input`, reports it and notes its status: of several the first that is not 0
 // stays. It is run in `image`, so that `input` is left as it was read; the answer is its size.
 fn report_argument(
+    rt: HostRuntime,
     index: usize,
     several: bool,
     goal: Goal,
@@ -92,22 +107,23 @@ fn report_argument(
     ensures status_after { status.new ≡ first_of status.old (first_of failed.new (image_status goal (take result input.new))) }
     ensures failure_stays { FailureStays failed.old failed.new }
 {
-    let size = read_two(index, input, image, failed);
-    let own = report_image(index, several, goal, &mut image[..size], failed);
+    let size = read_two(rt, index, input, image, failed);
+    let own = report_image(rt, index, several, goal, &mut image[..size], failed);
     note_failure(own, status);
     size
 }
 
 // Reports the images that the arguments from an index on name, each with a cell of its own, or standard input if there
 // are none.
-fn report_all(from: usize, goal: Goal) -> u8 {
+fn report_all(rt: HostRuntime, from: usize, goal: Goal) -> u8 {
     let mut input = image_buffer();
     let mut image = image_buffer();
     let mut status: u8 = 0;
     let mut failed: u8 = 0;
-    let count = os::arg_count();
+    let count = argument_count(rt);
     if count <= from {
         report_argument(
+            rt,
             from,
             false,
             goal,
@@ -122,6 +138,7 @@ fn report_all(from: usize, goal: Goal) -> u8 {
     while index < count {
         failed = 0;
         report_argument(
+            rt,
             index,
             1 < count - from,
             goal,
@@ -135,29 +152,33 @@ fn report_all(from: usize, goal: Goal) -> u8 {
     status
 }
 
-fn report_from(from: usize, goal: Goal) -> u8
+fn report_from(rt: HostRuntime, from: usize, goal: Goal) -> u8
     requires { from ≤ 3 }
 {
-    let names = names_from(from);
+    let names = names_from(rt, from);
     if names == 0 {
         return refuse(
+            rt,
             b"report: the only option is --stop ADDRESS, and it comes first; ./run report --help\n",
         );
     }
-    report_all(names, goal)
+    report_all(rt, names, goal)
 }
 
-fn report_by_arguments() -> u8 {
-    if !argument_is(1, b"--stop") {
-        return report_from(1, Goal::Unnamed);
+fn report_by_arguments(rt: HostRuntime) -> u8 {
+    if !argument_is(rt, 1, b"--stop") {
+        return report_from(rt, 1, Goal::Unnamed);
     }
-    let address = address_argument(2);
+    let address = address_argument(rt, 2);
     if address.next == NOWHERE {
-        return refuse(b"report: after --stop comes an address, four capital hexadecimal digits\n");
+        return refuse(
+            rt,
+            b"report: after --stop comes an address, four capital hexadecimal digits\n",
+        );
     }
-    report_from(3, Goal::At(address.value))
+    report_from(rt, 3, Goal::At(address.value))
 }
 
-fn main() {
-    hand_over(report_by_arguments());
+fn main(rt: HostRuntime) {
+    hand_over(report_by_arguments(rt));
 }

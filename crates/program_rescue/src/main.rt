@@ -23,7 +23,7 @@ ghost use Rattle.statuses.specs.Statuses.{first_of};
 ghost use Rattle.console.specs.Failing.{FailureStays};
 ghost use Rattle.program_rescue.specs.Status.{status_of};
 
-use console::{Done, hand_over, names_from, refuse, say_of, write_output};
+use console::{Done, argument_count, hand_over, names_from, refuse, say_of, write_output};
 use console_tapes::{read_tape_input, say_verdict};
 use laws::answers::*;
 use statuses::{first_of, rescue_status};
@@ -31,34 +31,34 @@ use tape_loading::{Format, Verdict, judge_tape};
 use tape_paper::tape_buffer;
 use tape_rescuing::{LONGEST_SENTENCE, Rescued, put_sentence, rescue};
 
-fn explain(index: usize, rescued: Rescued, verdict: Verdict, failed: &mut u8)
+fn explain(rt: HostRuntime, index: usize, rescued: Rescued, verdict: Verdict, failed: &mut u8)
     ensures { FailureStays failed.old failed.new }
 {
     let mut text = [0u8; LONGEST_SENTENCE];
     let size = put_sentence(&mut text, 0, rescued, verdict.answer);
-    say_of(index, &text[..size], failed);
+    say_of(rt, index, &text[..size], failed);
 }
 
 // Says why a reader refuses the old tape, if nothing else has told that it is not whole.
-fn explain_old(index: usize, rescued: Rescued, verdict: Verdict, failed: &mut u8)
+fn explain_old(rt: HostRuntime, index: usize, rescued: Rescued, verdict: Verdict, failed: &mut u8)
     ensures { FailureStays failed.old failed.new }
 {
     if rescued.answer != NOT_REFUSED || rescued.dropped != 0 || verdict.answer == NOT_REFUSED {
         return;
     }
-    say_verdict(index, Format::Tape, verdict, failed);
+    say_verdict(rt, index, Format::Tape, verdict, failed);
 }
 
 // Saves what can be saved of a tape into `text`, and prints it.
-fn rescue_tape(index: usize, tape: &[u8], text: &mut [u8], failed: &mut u8) -> u8
+fn rescue_tape(rt: HostRuntime, index: usize, tape: &[u8], text: &mut [u8], failed: &mut u8) -> u8
     ensures { result ≡ first_of failed.new (status_of tape.now text.old) }
 {
     let rescued = rescue(tape, text);
     let size = rescued.size;
-    write_output(&text[..size], failed);
+    write_output(rt, &text[..size], failed);
     let verdict = judge_tape(tape);
-    explain(index, rescued, verdict, failed);
-    explain_old(index, rescued, verdict, failed);
+    explain(rt, index, rescued, verdict, failed);
+    explain_old(rt, index, rescued, verdict, failed);
     first_of(
         *failed,
         rescue_status(rescued.answer, rescued.dropped, verdict.answer),
@@ -66,39 +66,48 @@ fn rescue_tape(index: usize, tape: &[u8], text: &mut [u8], failed: &mut u8) -> u
 }
 
 // Saves the tape that an argument names. The buffers are lent, so that the promise can name what was read.
-fn rescue_input(index: usize, tape: &mut [u8], text: &mut [u8], failed: &mut u8) -> Done
+fn rescue_input(
+    rt: HostRuntime,
+    index: usize,
+    tape: &mut [u8],
+    text: &mut [u8],
+    failed: &mut u8,
+) -> Done
     ensures { result.status ≡ first_of failed.new (status_of (take result.size tape.new) text.old) }
 {
-    let size = read_tape_input(index, tape, failed);
+    let size = read_tape_input(rt, index, tape, failed);
     if *failed != 0 {
         return Done {
             size: size,
             status: *failed,
         };
     }
-    let status = rescue_tape(index, &tape[..size], text, failed);
+    let status = rescue_tape(rt, index, &tape[..size], text, failed);
     Done {
         size: size,
         status: status,
     }
 }
 
-fn rescue_argument(index: usize) -> u8 {
+fn rescue_argument(rt: HostRuntime, index: usize) -> u8 {
     let mut tape = tape_buffer();
     let mut text = tape_buffer();
     let mut failed = 0;
-    let done = rescue_input(index, &mut tape, &mut text, &mut failed);
+    let done = rescue_input(rt, index, &mut tape, &mut text, &mut failed);
     done.status
 }
 
-fn rescue_by_arguments() -> u8 {
-    let index = names_from(1);
-    if index == 0 || index + 1 < os::arg_count() {
-        return refuse(b"rescue: name one tape, or none for standard input; ./run rescue --help\n");
+fn rescue_by_arguments(rt: HostRuntime) -> u8 {
+    let index = names_from(rt, 1);
+    if index == 0 || index + 1 < argument_count(rt) {
+        return refuse(
+            rt,
+            b"rescue: name one tape, or none for standard input; ./run rescue --help\n",
+        );
     }
-    rescue_argument(index)
+    rescue_argument(rt, index)
 }
 
-fn main() {
-    hand_over(rescue_by_arguments());
+fn main(rt: HostRuntime) {
+    hand_over(rescue_by_arguments(rt));
 }

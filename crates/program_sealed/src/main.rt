@@ -18,7 +18,7 @@
 #![tactic(auto)]
 
 ghost use Rattle.std.specs.Prelude.{◌+◌, ◌≤◌, ◌≡◌, length, take};
-ghost use Rattle.io.specs.Counts.{IsPrefixLen};
+ghost use Rattle.text_writing.specs.Counts.{IsPrefixLen};
 ghost use Rattle.manual.specs.Stepping.{full_memory};
 ghost use Rattle.statuses.specs.Statuses.{first_of};
 ghost use Rattle.console.specs.Failing.{FailureStays};
@@ -28,8 +28,8 @@ ghost use Rattle.program_sealed.specs.Runs.{longest_word, left_file, run_status,
 ghost use Rattle.trace_line.specs.Lines.{longest_line};
 
 use console::{
-    Asked, Done, Names, hand_over, image_and_after, put_printed, refuse, say_of, steps_and_stop,
-    write_output,
+    Asked, Done, Names, hand_over, image_and_after, put_argument, put_printed, refuse, say, say_of,
+    steps_and_stop, write_output,
 };
 use console_ending::say_ending;
 use console_files::{is_same_file, not_written, read_and_test, replace};
@@ -40,7 +40,6 @@ use guard_extract::{
 };
 use guard_maps::{MAP_SIZE, empty_map};
 use image_halted::put_after;
-use libc::STDERR_FILENO;
 use manual::FULL_MEMORY;
 use memory::image_buffer;
 use statuses::{Goal, WRONG_USAGE, first_of};
@@ -62,21 +61,28 @@ struct Work {
     steps: u64,
 }
 
-fn print_line(guarded: Guarded, failed: &mut u8)
+fn print_line(rt: HostRuntime, guarded: Guarded, failed: &mut u8)
     ensures { FailureStays failed.old failed.new }
 {
     let mut text = [0u8; LONGEST_SEALED_LINE];
     let size = put_sealed_line(&mut text, 0, guarded);
-    write_output(&text[..size], failed);
+    write_output(rt, &text[..size], failed);
 }
 
 // Says how a run ended that was not halted.
-fn say_end(index: usize, goal: Goal, guarded: Guarded, image: &[u8], failed: &mut u8)
+fn say_end(
+    rt: HostRuntime,
+    index: usize,
+    goal: Goal,
+    guarded: Guarded,
+    image: &[u8],
+    failed: &mut u8,
+)
     ensures { FailureStays failed.old failed.new }
 {
     match guarded {
         Guarded::Ran(ended) => {
-            say_ending(index, goal, ended, image, failed);
+            say_ending(rt, index, goal, ended, image, failed);
         }
         Guarded::Halted(_) => {}
     }
@@ -84,6 +90,7 @@ fn say_end(index: usize, goal: Goal, guarded: Guarded, image: &[u8], failed: &mu
 
 // Says how the run ended and what can be sworn, and answers the status.
 fn swear(
+    rt: HostRuntime,
     index: usize,
     goal: Goal,
     word: &[u8],
@@ -95,10 +102,10 @@ fn swear(
     ensures value { result ≡ sealed_status goal guarded }
     ensures failure_stays { FailureStays failed.old failed.new }
 {
-    say_end(index, goal, guarded, image, failed);
+    say_end(rt, index, goal, guarded, image, failed);
     let mut text = [0u8; LONGEST_OATH + LONGEST_WORD];
     let size = put_oath(&mut text, 0, word, guarded);
-    say_of(index, &text[..size], failed);
+    say_of(rt, index, &text[..size], failed);
     sealed_status(goal, guarded)
 }
 
@@ -119,6 +126,7 @@ fn put_left(file: &mut [u8], goal: Goal, guarded: Guarded) -> usize
 
 // Keeps a file that a run left. `input` is what was read: only if its status is 0, and only what the definition says.
 fn keep(
+    rt: HostRuntime,
     after: usize,
     work: Work,
     sealed: &[u8; MAP_SIZE],
@@ -134,12 +142,13 @@ fn keep(
     ensures value { result ≡ first_of failed.new status }
     ensures failure_stays { FailureStays failed.old failed.new }
 {
-    replace(after, status, file, failed)
+    replace(rt, after, status, file, failed)
 }
 
 // Runs what was read, in the copy of it that stands at the start of `image`, and keeps what it leaves there. `word` says what is
 // sealed.
 fn seal_file(
+    rt: HostRuntime,
     names: Names,
     work: Work,
     word: &[u8],
@@ -155,14 +164,15 @@ fn seal_file(
 {
     let size = input.len();
     let goal = work.goal;
-    let guarded = run_sealed(work.steps, sealed, &mut image[..size]);
-    print_line(guarded, failed);
-    let status = swear(names.image, goal, word, guarded, &image[..size], failed);
+    let guarded = run_sealed(rt, work.steps, sealed, &mut image[..size]);
+    print_line(rt, guarded, failed);
+    let status = swear(rt, names.image, goal, word, guarded, &image[..size], failed);
     if first_of(*failed, status) != 0 {
-        return not_written(names.after, status, failed);
+        return not_written(rt, names.after, status, failed);
     }
     let after_size = put_left(image, goal, guarded);
     keep(
+        rt,
         names.after,
         work,
         sealed,
@@ -175,6 +185,7 @@ fn seal_file(
 
 // Reads the image into both buffers, and runs it in the second.
 fn seal_argument(
+    rt: HostRuntime,
     names: Names,
     work: Work,
     word: &[u8],
@@ -187,30 +198,34 @@ fn seal_argument(
     requires input_in_bounds { (length input.old ≤ length image.old) × (full_memory + longest_line ≤ length image.old) }
     ensures { result.status ≡ first_of failed.new (run_status (in_map sealed.now) work (take result.size input.new)) }
 {
-    let size = read_and_test(names, input, image, failed);
+    let size = read_and_test(rt, names, input, image, failed);
     if *failed != 0 {
         return Done {
             size: size,
             status: *failed,
         };
     }
-    let status = seal_file(names, work, word, sealed, &input[..size], image, failed);
+    let status = seal_file(rt, names, work, word, sealed, &input[..size], image, failed);
     Done {
         size: size,
         status: status,
     }
 }
 
-fn seal(names: Names, work: Work, word: &[u8], sealed: &[u8; MAP_SIZE]) -> u8
+fn seal(rt: HostRuntime, names: Names, work: Work, word: &[u8], sealed: &[u8; MAP_SIZE]) -> u8
     requires { length word.now ≤ longest_word }
 {
-    if is_same_file(names.after, names.image) {
-        return refuse(b"sealed: AFTER is IMAGE, which would be lost; name another file\n");
+    if is_same_file(rt, names.after, names.image) {
+        return refuse(
+            rt,
+            b"sealed: AFTER is IMAGE, which would be lost; name another file\n",
+        );
     }
     let mut input = image_buffer();
     let mut image = image_buffer();
     let mut failed = 0;
     let done = seal_argument(
+        rt,
         names,
         work,
         word,
@@ -222,12 +237,13 @@ fn seal(names: Names, work: Work, word: &[u8], sealed: &[u8; MAP_SIZE]) -> u8
     done.status
 }
 
-fn seal_by_goal(names: Names, word: &[u8], sealed: &[u8; MAP_SIZE]) -> u8
+fn seal_by_goal(rt: HostRuntime, names: Names, word: &[u8], sealed: &[u8; MAP_SIZE]) -> u8
     requires { length word.now ≤ longest_word }
 {
-    let asked = steps_and_stop(b"sealed", 2);
+    let asked = steps_and_stop(rt, b"sealed", 2);
     match asked {
         Asked::For(steps, goal) => seal(
+            rt,
             names,
             Work {
                 goal: goal,
@@ -240,40 +256,43 @@ fn seal_by_goal(names: Names, word: &[u8], sealed: &[u8; MAP_SIZE]) -> u8
     }
 }
 
-// Names a stretch on standard error, as it is printed.
-fn name_stretch(stretch: &[u8])
+// Names a stretch on standard error, as it is printed. A failure changes nothing: the status is that of wrong usage.
+fn name_stretch(rt: HostRuntime, stretch: &[u8])
     requires { length stretch.now ≤ longest_word }
 {
+    let mut lost = 0;
     let mut text = word_buffer();
     let size = put_printed(&mut text, 0, stretch);
-    io::write_all(STDERR_FILENO, b"sealed: \"");
-    io::write_all(STDERR_FILENO, &text[..size]);
+    say(rt, b"sealed: \"", &mut lost);
+    say(rt, &text[..size], &mut lost);
 }
 
 // Refuses the stretch that stands at a place of the word.
-fn refuse_stretch(word: &[u8], at: usize, sentence: &[u8]) -> u8
+fn refuse_stretch(rt: HostRuntime, word: &[u8], at: usize, sentence: &[u8]) -> u8
     requires { length word.now ≤ longest_word }
 {
     let stretch = rest(word, at);
     let end = stretch_end(stretch);
-    name_stretch(&stretch[..end]);
-    refuse(sentence)
+    name_stretch(rt, &stretch[..end]);
+    refuse(rt, sentence)
 }
 
-fn seal_by_word(names: Names) -> u8 {
+fn seal_by_word(rt: HostRuntime, names: Names) -> u8 {
     let mut text = word_buffer();
-    let size = os::arg(1, &mut text);
+    let size = put_argument(rt, &mut text, 1);
     let word = &text[..size];
     let mut sealed = empty_map();
     match read_stretches(word, &mut sealed) {
-        Spelled::Well => seal_by_goal(names, word, &sealed),
+        Spelled::Well => seal_by_goal(rt, names, word, &sealed),
         Spelled::Otherwise(at) => refuse_stretch(
+            rt,
             word,
             at,
             b"\" is no stretch: give FIRST-LAST, as 0400-04FF, and a comma between two\n",
         ),
-        Spelled::Backwards(at) => refuse_stretch(word, at, b"\" runs backwards\n"),
+        Spelled::Backwards(at) => refuse_stretch(rt, word, at, b"\" runs backwards\n"),
         Spelled::AtTheStart(at) => refuse_stretch(
+            rt,
             word,
             at,
             b"\" cannot be sealed: the run finds its start at FFFC and FFFD\n",
@@ -281,14 +300,17 @@ fn seal_by_word(names: Names) -> u8 {
     }
 }
 
-fn seal_by_arguments() -> u8 {
-    let names = image_and_after(4);
+fn seal_by_arguments(rt: HostRuntime) -> u8 {
+    let names = image_and_after(rt, 4);
     if names.image == 0 {
-        return refuse(b"sealed: give STRETCHES STEPS STOP IMAGE AFTER; ./run sealed --help\n");
+        return refuse(
+            rt,
+            b"sealed: give STRETCHES STEPS STOP IMAGE AFTER; ./run sealed --help\n",
+        );
     }
-    seal_by_word(names)
+    seal_by_word(rt, names)
 }
 
-fn main() {
-    hand_over(seal_by_arguments());
+fn main(rt: HostRuntime) {
+    hand_over(seal_by_arguments(rt));
 }

@@ -22,7 +22,7 @@ ghost use Rattle.console.specs.Failing.{FailureStays};
 ghost use Rattle.tape_paper.specs.Tapes.{tape_of};
 
 use crate::line::{LONGEST_LINE, put_line};
-use console::{Done, hand_over, names_from, refuse, write_output};
+use console::{Done, argument_count, hand_over, names_from, refuse, write_output};
 use console_tapes::{read_tape_input, say_verdict};
 use statuses::first_of;
 use tape_loading::{Format, Verdict, judge_tape};
@@ -31,12 +31,12 @@ use tape_rescuing::{Rescued, rescue};
 
 mod line; // line.rt: the line of a tape
 
-fn print_line(verdict: Verdict, rescued: Rescued, failed: &mut u8)
+fn print_line(rt: HostRuntime, verdict: Verdict, rescued: Rescued, failed: &mut u8)
     ensures { FailureStays failed.old failed.new }
 {
     let mut text = [0u8; LONGEST_LINE];
     let size = put_line(&mut text, 0, verdict, rescued);
-    write_output(&text[..size], failed);
+    write_output(rt, &text[..size], failed);
 }
 
 fn rescue_for_counts(tape: &[u8]) -> Rescued {
@@ -45,28 +45,28 @@ fn rescue_for_counts(tape: &[u8]) -> Rescued {
 }
 
 // Surveys a tape, and answers its status.
-fn survey_tape(index: usize, tape: &[u8], failed: &mut u8) -> u8
+fn survey_tape(rt: HostRuntime, index: usize, tape: &[u8], failed: &mut u8) -> u8
     ensures { result ≡ first_of failed.new (tape_of tape.now).answer }
 {
     let verdict = judge_tape(tape);
     let rescued = rescue_for_counts(tape);
-    print_line(verdict, rescued, failed);
-    say_verdict(index, Format::Tape, verdict, failed);
+    print_line(rt, verdict, rescued, failed);
+    say_verdict(rt, index, Format::Tape, verdict, failed);
     first_of(*failed, verdict.answer)
 }
 
 // Surveys the tape that an argument names. The buffer is lent, so that the promise can name what was read.
-fn survey_argument(index: usize, tape: &mut [u8], failed: &mut u8) -> Done
+fn survey_argument(rt: HostRuntime, index: usize, tape: &mut [u8], failed: &mut u8) -> Done
     ensures { result.status ≡ first_of failed.new (tape_of (take result.size tape.new)).answer }
 {
-    let size = read_tape_input(index, tape, failed);
+    let size = read_tape_input(rt, index, tape, failed);
     if *failed != 0 {
         return Done {
             size: size,
             status: *failed,
         };
     }
-    let status = survey_tape(index, &tape[..size], failed);
+    let status = survey_tape(rt, index, &tape[..size], failed);
     Done {
         size: size,
         status: status,
@@ -74,31 +74,34 @@ fn survey_argument(index: usize, tape: &mut [u8], failed: &mut u8) -> Done
 }
 
 // Surveys one tape in a buffer of its own.
-fn survey_one(index: usize) -> u8 {
+fn survey_one(rt: HostRuntime, index: usize) -> u8 {
     let mut tape = tape_buffer();
     let mut failed = 0;
-    let done = survey_argument(index, &mut tape, &mut failed);
+    let done = survey_argument(rt, index, &mut tape, &mut failed);
     done.status
 }
 
-fn survey_all() -> u8 {
-    let from = names_from(1);
+fn survey_all(rt: HostRuntime) -> u8 {
+    let from = names_from(rt, 1);
     if from == 0 {
-        return refuse(b"survey: name tapes, or none for standard input; ./run survey --help\n");
+        return refuse(
+            rt,
+            b"survey: name tapes, or none for standard input; ./run survey --help\n",
+        );
     }
-    let count = os::arg_count();
+    let count = argument_count(rt);
     if count <= from {
-        return survey_one(from);
+        return survey_one(rt, from);
     }
     let mut status = 0;
     let mut index = from;
     while index < count {
-        status = first_of(status, survey_one(index));
+        status = first_of(status, survey_one(rt, index));
         index += 1;
     }
     status
 }
 
-fn main() {
-    hand_over(survey_all());
+fn main(rt: HostRuntime) {
+    hand_over(survey_all(rt));
 }

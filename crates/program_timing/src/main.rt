@@ -17,37 +17,43 @@
 
 ghost use Rattle.std.specs.Prelude.{◌≤◌};
 
-use console::{address_argument, argument_is, count_argument, hand_over, names_from, refuse};
+use console::{
+    address_argument, argument_count, argument_is, count_argument, hand_over, names_from, refuse,
+};
 use console_showing::show_input;
 use statuses::Goal;
 use text_reading::NOWHERE;
 use trace_text::View;
 
 // The arguments from an index on: the count, and the image.
-fn time_from(from: usize, goal: Goal) -> u8
+fn time_from(rt: HostRuntime, from: usize, goal: Goal) -> u8
     requires { from ≤ 3 }
 {
-    let count = count_argument(from);
-    let name = names_from(from + 1);
-    if count.next == NOWHERE || name == 0 || name + 1 < os::arg_count() {
+    let count = count_argument(rt, from);
+    let name = names_from(rt, from + 1);
+    if count.next == NOWHERE || name == 0 || name + 1 < argument_count(rt) {
         return refuse(
+            rt,
             b"timing: give the number of steps, in decimal, and one image; ./run timing --help\n",
         );
     }
-    show_input(name, View::Steps, goal, count.value)
+    show_input(rt, name, View::Steps, goal, count.value)
 }
 
-fn time_by_arguments() -> u8 {
-    if !argument_is(1, b"--stop") {
-        return time_from(1, Goal::Unnamed);
+fn time_by_arguments(rt: HostRuntime) -> u8 {
+    if !argument_is(rt, 1, b"--stop") {
+        return time_from(rt, 1, Goal::Unnamed);
     }
-    let address = address_argument(2);
+    let address = address_argument(rt, 2);
     if address.next == NOWHERE {
-        return refuse(b"timing: after --stop comes an address, four capital hexadecimal digits\n");
+        return refuse(
+            rt,
+            b"timing: after --stop comes an address, four capital hexadecimal digits\n",
+        );
     }
-    time_from(3, Goal::At(address.value))
+    time_from(rt, 3, Goal::At(address.value))
 }
 
-fn main() {
-    hand_over(time_by_arguments());
+fn main(rt: HostRuntime) {
+    hand_over(time_by_arguments(rt));
 }

@@ -15,23 +15,24 @@
 // the lines is the theorem `trace_accepted`.
 #![tactic(auto)]
 
-use console::{count_argument, hand_over, names_from, refuse};
+use console::{argument_count, count_argument, hand_over, names_from, refuse};
 use console_showing::show_input;
 use statuses::Goal;
 use text_reading::NOWHERE;
 use trace_text::View;
 
-fn trace_by_arguments() -> u8 {
-    let count = count_argument(1);
-    let name = names_from(2);
-    if count.next == NOWHERE || name == 0 || name + 1 < os::arg_count() {
+fn trace_by_arguments(rt: HostRuntime) -> u8 {
+    let count = count_argument(rt, 1);
+    let name = names_from(rt, 2);
+    if count.next == NOWHERE || name == 0 || name + 1 < argument_count(rt) {
         return refuse(
+            rt,
             b"trace: give the number of steps, in decimal, and one image; ./run trace --help\n",
         );
     }
-    show_input(name, View::States, Goal::AllSteps, count.value)
+    show_input(rt, name, View::States, Goal::AllSteps, count.value)
 }
 
-fn main() {
-    hand_over(trace_by_arguments());
+fn main(rt: HostRuntime) {
+    hand_over(trace_by_arguments(rt));
 }
