@@ -25,12 +25,7 @@ mod parts; // parts.rt: the run, in parts
 pub mod stretches; // stretches.rt: the word that says what is sealed
 
 // Runs an image for at most so many steps, with idle lines and some addresses sealed.
-pub fn run_sealed(
-    rt: HostRuntime,
-    steps: u64,
-    sealed: &[u8; MAP_SIZE],
-    image: &mut [u8],
-) -> Guarded
+pub fn run_sealed(rt: HostRuntime, steps: u64, sealed: &[u8; MAP_SIZE], image: &mut [u8]) -> Guarded
     ensures { (result, image.new) ≡ image_extract (in_map sealed.now) steps image.old }
 {
     if image.len() != FULL_MEMORY {
