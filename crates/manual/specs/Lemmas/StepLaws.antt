@@ -16,7 +16,7 @@ use Rattle.manual.specs.declared.Effect.{Effect}
 use Rattle.manual.specs.declared.Stepped.{Stepped}
 use Rattle.manual.specs.declared.Reason.{Reason}
 use Rattle.manual.specs.declared.Reason.TheVariants.{Made, MemoryNotFull, NoCycleRoom, NotAnOpcode, BoundTooHigh}
-use Rattle.manual.specs.Micro.{done, exec, Gives}
+use Rattle.manual.specs.Micro.{exec, Gives}
 use Rattle.manual.specs.Outcomes.{is_made, refused, ended}
 use Rattle.manual.specs.Interrupts.{nmi_vector, irq_vector, serving_cycles, served, falls, calls, due}
 use Rattle.manual.specs.Instructions.{perform}

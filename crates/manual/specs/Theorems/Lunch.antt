@@ -1,6 +1,6 @@
 -- A run in two parts (P12): whoever halts a run and goes on later from the state that it left has what the whole run gives, and the steps
 -- of the two add up; the levels of the lines are the same throughout. A run that was stopped in its first part is the whole run.
-use Rattle.std.specs.Prelude.{ℕ, zero, suc, ◌+◌, ◌≤◌, ◌<◌, ◌≡◌, refl, Bool, true, false, cond, List, length}
+use Rattle.std.specs.Prelude.{ℕ, zero, suc, ◌+◌, ◌≤◌, ◌≡◌, refl, Bool, true, false, cond, List, length}
 use Rattle.std.proofs.Common.{ap, sym, ◌∙◌, arith}
 use Rattle.std.proofs.Math.Decide.{ℕ_discrete}
 use Rattle.manual.specs.declared.Lines.{Lines}

@@ -24,7 +24,7 @@ use Rattle.manual.specs.declared.Due.TheVariants.{Through, Quiet}
 use Rattle.manual.specs.declared.Target.{Target}
 use Rattle.manual.specs.declared.Effect.{Effect}
 use Rattle.manual.specs.Micro.{Micro, done, exec}
-use Rattle.manual.specs.Words.{low_byte, address_of, page}
+use Rattle.manual.specs.Words.{low_byte, page}
 use Rattle.manual.specs.Branching.{branch_target, branched, holds}
 use Rattle.manual.specs.Addressing.{operand, target}
 use Rattle.manual.specs.Stack.{push, pull, push_address, pull_address}

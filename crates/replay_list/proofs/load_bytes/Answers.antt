@@ -13,8 +13,7 @@ pub returns-then-cell : goal.returns-then-cell
 returns-then-cell c = c.loop-left.invariant.1 ∙ load_end _ _ _ c.read_cell-cell.ensures _ (omega arith) c.if-cell.true
 
 pub loop-left-preserved : goal.loop-left-preserved
-loop-left-preserved c =
-    (
+loop-left-preserved c = (
   omega (arith, c.loop-left.invariant.0),
   c.loop-left.invariant.1
       ∙ load_more _ _ _ c.read_cell-cell.ensures _ (omega arith) c.if-cell.false

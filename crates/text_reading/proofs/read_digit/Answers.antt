@@ -11,17 +11,23 @@ returns-then-text-at c = record { value = rw (le-ltb _ _ c.if-text-at.true); val
 pub returns-then-value-base : goal.returns-then-value-base
 unfolding digit_at
 returns-then-value-base c =
-    record { value = rw (
-    lt-ltb _ _ c.if-text-at.false,
-    ← c.digit_value-value.ensures,
-    lt-ltb _ _ c.if-value-base.true,
-  ); value_bound = omega arith }
+    record {
+      value = rw (
+        lt-ltb _ _ c.if-text-at.false,
+        ← c.digit_value-value.ensures,
+        lt-ltb _ _ c.if-value-base.true,
+      );
+      value_bound = omega arith;
+    }
 
 pub returns : goal.returns
 unfolding digit_at
 returns c =
-    record { value = rw (
-    lt-ltb _ _ c.if-text-at.false,
-    ← c.digit_value-value.ensures,
-    le-ltb _ _ c.if-value-base.false,
-  ); value_bound = omega arith }
+    record {
+      value = rw (
+        lt-ltb _ _ c.if-text-at.false,
+        ← c.digit_value-value.ensures,
+        le-ltb _ _ c.if-value-base.false,
+      );
+      value_bound = omega arith;
+    }

@@ -3,7 +3,7 @@ use Rattle.std.specs.Prelude.{◌≡◌, refl, Bool, true, false, List, [], ◌�
 use Rattle.std.proofs.Common.{arith, length-append, ltb-true, ltb-false}
 use Rattle.std.proofs.Math.ListN.{get_or-append}
 use Rattle.laws.specs.Lemmas.Agree.{agree}
-use Rattle.text_writing.specs.Numerals.{digit, digits, decimal}
+use Rattle.text_writing.specs.Numerals.{digit, decimal}
 use Rattle.text_writing.specs.Lemmas.Texts.{decimal_one, decimal_more}
 
 -- the number of a row of digits, after one that was read before
