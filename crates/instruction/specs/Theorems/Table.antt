@@ -69,10 +69,6 @@ distinct zero (r ∷ rs) = false
 distinct (suc n) [] = false
 distinct (suc n) (r ∷ rs) = ltb r.opcode 256 && not (is_defined (find r.opcode rs)) && distinct n rs
 
-tested : T (every_row passes rows && distinct 151 rows)
-unfolding rows
-tested = tt
-
 -- ---- what it shows
 
 -- of two tests that differ at one number alone, the one that passes there counts one more
@@ -108,10 +104,9 @@ defined_by (suc n) (r ∷ rs) t =
     (ltb→lt r.opcode 256 byte)
     ∙ ap suc (defined_by n rs later)
 
--- The one lemma. No bound on the number is needed.
-pub table_rules : TableRules
+by_test : T (every_row passes rows && distinct 151 rows) → TableRules
 unfolding decoded
-table_rules = record {
+by_test tested = record {
   defined_151 = defined_by 151 rows (and_r (every_row passes rows) _ tested);
   ruled = λ k e is.
       let passed = every_entry passes (and_l (every_row passes rows) (distinct 151 rows) tested) k e is in
@@ -123,3 +118,8 @@ table_rules = record {
         bytes_most = leb→le _ _ (search (and_l, and_r));
       };
 }
+
+-- The one lemma. No bound on the number is needed.
+pub table_rules : TableRules
+unfolding rows
+table_rules = by_test tt
