@@ -1,6 +1,6 @@
 -- What the promise of `extract` is worth: the memory that it leaves may be handed out whole. `sealed` is any test of addresses.
 use Rattle.std.specs.Prelude.{◌≡◌, ℕ, Bool, true, false, cond, List, length, slice_index, refl}
-use Rattle.std.proofs.Common.{ap, sym, ◌∙◌, true≢false, arith, ext_get_or}
+use Rattle.std.proofs.Common.{ap, sym, ◌∙◌, true≢false, ext_get_or}
 use Rattle.manual.specs.declared.Lines.{Lines}
 use Rattle.manual.specs.declared.Machine.{Machine}
 use Rattle.manual.specs.declared.Ended.{Ended}
