@@ -7,7 +7,7 @@ use Rattle.manual.specs.declared.Machine.{Machine}
 use Rattle.manual.specs.declared.Stepped.{Stepped}
 use Rattle.manual.specs.declared.Reason.{Reason}
 use Rattle.manual.specs.declared.Reason.TheVariants.{Made, MemoryNotFull, NoCycleRoom, NotAnOpcode, BoundTooHigh}
-use Rattle.manual.specs.Micro.{exec, stores, Gives}
+use Rattle.manual.specs.Micro.{stores, Gives}
 use Rattle.manual.specs.Outcomes.{number, is_made, stepped}
 use Rattle.manual.specs.Stepping.{step}
 use Rattle.manual.specs.ReadList.{listed_step}
