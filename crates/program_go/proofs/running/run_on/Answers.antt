@@ -1,7 +1,7 @@
-use Rattle.std.proofs.Common.{arith, rules, refl, sym, ap, ◌∙◌}
+use Rattle.std.proofs.Common.{arith, rules, sym, ap, ◌∙◌}
 use Rattle.manual.specs.Lemmas.StepLaws.{was_made, was_refused}
 use Rattle.manual.specs.Theorems.Lunch.{added}
-use Rattle.manual_parts.specs.Lemmas.Parts.{long_steps, begun, turn, halt}
+use Rattle.manual_parts.specs.Lemmas.Parts.{long_steps, turn, halt}
 use Rattle.program_go.proofs.running.run_on.Goals as goal
 
 pub overflow_add-made : goal.overflow_add-made
@@ -24,4 +24,4 @@ overflow_add-made-2 c = omega (arith, long_steps _ _ _ _ (rw c.idle-2.ensures at
 
 pub returns : goal.returns
 returns c =
-    c.loop-made.invariant.2 ∙ ap (added _) (rw c.idle-2.ensures at c.long_run-last.ensures) ∙ rw c.new.ensures
+    c.loop-made.invariant.2 ∙ ap (added _) (rw c.idle-2.ensures at c.long_run-last.ensures) ∙ rw c.new-2.ensures
