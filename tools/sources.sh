@@ -1,5 +1,11 @@
 # shellcheck shell=sh disable=SC2154
-# What ./run and tools/build share; each has set `root`, the top of the repository, and `home`, the toolchain's folder.
+# What ./run, tools/build and the commands that take archives share. `root` is the top of the repository, and `home` the folder of the
+# toolchain, if a function speaks of them.
+
+# newer_than FILE: a source that is newer, or anything if there is no such file. A folder is newer too, if a file in it is gone.
+newer_than() {
+    if [ -f "$1" ]; then find crates.txt crates/*/* -name out -prune -o -newer "$1" -print | head -n 1; else echo "$1"; fi
+}
 
 # crates_of CRATE: the crates that it is proved from, itself too.
 crates_of() {
