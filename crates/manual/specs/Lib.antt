@@ -15,5 +15,3 @@ pub mod Stepping
 pub mod ReadList
 pub mod StoreList
 pub mod Inner
-pub mod Lemmas
-pub mod Theorems

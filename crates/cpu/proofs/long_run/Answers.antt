@@ -1,6 +1,6 @@
 -- The length is tested before any step.
 use Rattle.std.proofs.Common.{◌∙◌}
-use Rattle.manual.specs.Lemmas.StepLaws.{long_short, long_whole}
+use Rattle.manual.proofs.Lemmas.StepLaws.{long_short, long_whole}
 use Rattle.cpu.proofs.long_run.Goals as goal
 
 pub returns-then-memory-ne-FULL_MEMORY : goal.returns-then-memory-ne-FULL_MEMORY

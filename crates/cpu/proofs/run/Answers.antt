@@ -1,6 +1,6 @@
 -- The length and the bound are tested, in that order, before any step.
 use Rattle.std.proofs.Common.{◌∙◌}
-use Rattle.manual.specs.Lemmas.StepLaws.{run_short, run_long, run_whole}
+use Rattle.manual.proofs.Lemmas.StepLaws.{run_short, run_long, run_whole}
 use Rattle.cpu.proofs.run.Goals as goal
 
 pub returns-then-memory-ne-FULL_MEMORY : goal.returns-then-memory-ne-FULL_MEMORY

@@ -1,6 +1,6 @@
 -- The length is tested first; a step is a turn of one.
 use Rattle.std.proofs.Common.{refl, ◌∙◌, inr}
-use Rattle.manual.specs.Lemmas.StepLaws.{step_short, step_whole}
+use Rattle.manual.proofs.Lemmas.StepLaws.{step_short, step_whole}
 use Rattle.cpu.specs.Lemmas.Turning.{one_fits, turn_step}
 use Rattle.cpu.proofs.single_step.Goals as goal
 

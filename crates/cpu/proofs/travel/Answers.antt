@@ -1,11 +1,10 @@
 use Rattle.std.proofs.Common.{◌≡◌, ℕ, ◌+◌, ◌-◌, ◌<◌, ◌≤◌, true, false, length, sym, ap, ◌∙◌, subst, arith}
-use borrow.Author.Tests.{not-true, not-false}
 use Rattle.manual.specs.declared.Reason.TheVariants.{Made}
 use Rattle.manual.specs.Micro.{exec, Gives}
 use Rattle.manual.specs.Outcomes.{is_made, ended}
 use Rattle.manual.specs.Stepping.{full_memory, run_full}
-use Rattle.manual.specs.Lemmas.StepLaws.{run_end}
-use Rattle.manual.specs.Theorems.Lunch.{added, added_none, added_twice}
+use Rattle.manual.proofs.Lemmas.StepLaws.{run_end}
+use Rattle.manual.proofs.Theorems.Lunch.{added, added_none, added_twice}
 use Rattle.cpu.specs.Inner.Turning.{Calm, reach, Fits, fitting, going, turning, settled}
 use Rattle.cpu.specs.Lemmas.Turning.{reach_calm, going_fits, going_most, turn_few, turn_stops, turn_goes}
 use Rattle.cpu.proofs.travel.Goals as goal

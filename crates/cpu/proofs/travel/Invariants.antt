@@ -2,7 +2,7 @@
 use Rattle.std.proofs.Common.{◌≡◌, ◌-◌, ◌≤◌, length}
 use Rattle.manual.specs.Micro.{exec}
 use Rattle.manual.specs.Stepping.{full_memory, run_full}
-use Rattle.manual.specs.Theorems.Lunch.{added}
+use Rattle.manual.proofs.Theorems.Lunch.{added}
 use Rattle.cpu.proofs.travel.Given as goal
 
 abbrev pub invariant-loop-steps : goal.invariant-loop-steps

@@ -1,6 +1,6 @@
 -- The room is tested first. A line that is due is served; where none is, the loop makes the steps.
 use Rattle.std.proofs.Common.{sym, ◌∙◌}
-use Rattle.manual.specs.Theorems.Ranges.{vector_within}
+use Rattle.manual.proofs.Theorems.Ranges.{vector_within}
 use Rattle.cpu.specs.Lemmas.Turning.{turn_late, turn_serves, turn_walks}
 use Rattle.cpu.proofs.turn.Goals as goal
 

@@ -1,5 +1,5 @@
 -- Laws of Turning.antt.
-use Rattle.std.specs.Prelude.{◌≡◌, ℕ, zero, suc, ◌+◌, ◌-◌, ◌/◌, ◌<◌, ◌≤◌, Bool, true, false, cond, not, ◌&&◌, ◌⊎◌, List, nat_lt, refl}
+use Rattle.std.specs.Prelude.{◌≡◌, ℕ, zero, suc, ◌+◌, ◌-◌, ◌/◌, ◌<◌, ◌≤◌, Bool, true, false, cond, ◌⊎◌, List, nat_lt, refl}
 use Rattle.std.proofs.Common.{ap, ◌∙◌, inl, inr, arith, lt-ltb, le-ltb}
 use Rattle.std.proofs.Math.Path.{sym}
 use Rattle.std.proofs.Math.Decide.{dec_lt}
@@ -14,12 +14,12 @@ use Rattle.manual.specs.Micro.{exec, Gives}
 use Rattle.manual.specs.Outcomes.{machine_of, is_made, stepped, ended}
 use Rattle.manual.specs.Interrupts.{served, due}
 use Rattle.manual.specs.Stepping.{highest_count, step_full, run_full}
-use Rattle.manual.specs.Lemmas.Programs.{exec_bind, then}
-use Rattle.manual.specs.Lemmas.StepLaws.{due_none, step_late, step_serves, step_undefined, step_defined}
-use Rattle.manual.specs.Theorems.Answers.{Way, late, serves, undefined, ready, way, not_quiet}
-use Rattle.manual.specs.Theorems.RunAnswers.{Leads, Ends, all_made_lem, no_cycle_room_lem, not_an_opcode_lem, run_ends}
-use Rattle.manual.specs.Theorems.Serving.{high_and_low, led_level}
-use Rattle.manual.specs.Theorems.Lunch.{added, full_lunch, full_stopped}
+use Rattle.manual.proofs.Lemmas.Programs.{exec_bind, then}
+use Rattle.manual.proofs.Lemmas.StepLaws.{due_none, step_late, step_serves, step_undefined, step_defined}
+use Rattle.manual.proofs.Theorems.Answers.{Way, late, serves, undefined, ready, way, not_quiet}
+use Rattle.manual.proofs.Theorems.RunAnswers.{Leads, Ends, all_made_lem, no_cycle_room_lem, not_an_opcode_lem, run_ends}
+use Rattle.manual.proofs.Theorems.Serving.{high_and_low, led_level}
+use Rattle.manual.proofs.Theorems.Lunch.{added, full_lunch, full_stopped}
 use Rattle.cpu.specs.declared.Travelled.{Travelled}
 use Rattle.cpu.specs.Inner.Travelling.{travelled, travelling}
 use Rattle.cpu.specs.Lemmas.Travelling.{travel_end, travel_made, travel_halts, travel_run, travel_step}

@@ -1,11 +1,11 @@
-use Prim.Native.Nat.{◌+◌, ◌-◌, ◌*◌, ◌<◌}
+use Prim.Native.Nat.{◌+◌, ◌*◌, ◌<◌}
 use mathlib.Core.Path.{◌≡◌, sym, ◌∙◌}
 use mathlib.Core.List.{[]}
 use native.Mathlib.Omega.{arith}
 use lib.ListN.{length}
 use Rattle.manual.specs.Stepping.{full_memory}
-use Rattle.manual.specs.Lemmas.StepLaws.{long_whole}
-use Rattle.manual.specs.Theorems.Spending.{cycles_short, cycles_long, cycles_whole}
+use Rattle.manual.proofs.Lemmas.StepLaws.{long_whole}
+use Rattle.manual.proofs.Theorems.Spending.{cycles_short, cycles_long, cycles_whole}
 use Rattle.cpu_cycles.specs.Lemmas.Budget.{unspent, spent, Pays, pays}
 use Rattle.cpu_cycles.proofs.run_cycles.Goals as goal
 

@@ -10,9 +10,9 @@ use Rattle.manual.specs.declared.Reason.TheVariants.{Made, NoCycleRoom, NotAnOpc
 use Rattle.manual.specs.Micro.{exec, Gives}
 use Rattle.manual.specs.Outcomes.{is_made, refused, ended}
 use Rattle.manual.specs.Stepping.{step_full, run_full, spend_full}
-use Rattle.manual.specs.Lemmas.StepLaws.{step_late, step_undefined, was_made, was_refused}
-use Rattle.manual.specs.Theorems.RunAnswers.{Leads, Ends, all_made_lem, no_cycle_room_lem, not_an_opcode_lem, run_ends}
-use Rattle.manual.specs.Theorems.Spending.{step_takes, spend_over, spend_more, spend_refused}
+use Rattle.manual.proofs.Lemmas.StepLaws.{step_late, step_undefined, was_made, was_refused}
+use Rattle.manual.proofs.Theorems.RunAnswers.{Leads, Ends, all_made_lem, no_cycle_room_lem, not_an_opcode_lem, run_ends}
+use Rattle.manual.proofs.Theorems.Spending.{step_takes, spend_over, spend_more, spend_refused}
 
 -- each step takes one to seven cycles
 led_takes : (k : ℕ) (lines : Lines) (s : Machine) (m : List ℕ) (s' : Machine) (m' : List ℕ) → Leads k lines s m s' m'

@@ -1,5 +1,5 @@
 -- From the record's answer and machine the step by value is made again.
-use Rattle.cpu_record.specs.Theorems.Record.{by_value}
+use Rattle.cpu_record.proofs.Theorems.Record.{by_value}
 use Rattle.cpu_record.proofs.step_by_record.Goals as goal
 
 pub returns : goal.returns

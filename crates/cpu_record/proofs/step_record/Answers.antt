@@ -1,5 +1,5 @@
 -- The step's answer is told, and its machine is put into the record.
-use Rattle.cpu_record.specs.Theorems.Record.{on_record}
+use Rattle.cpu_record.proofs.Theorems.Record.{on_record}
 use Rattle.cpu_record.proofs.step_record.Goals as goal
 
 pub returns : goal.returns

@@ -1,6 +1,6 @@
 -- The room for cycles is tested first, then the lines.
 use Rattle.std.proofs.Common.{sym, ap, ◌∙◌}
-use Rattle.manual.specs.Theorems.Ranges.{vector_within}
+use Rattle.manual.proofs.Theorems.Ranges.{vector_within}
 use Rattle.footprint.specs.Places.{footprint_of}
 use Rattle.footprint.specs.Lemmas.Footprints.{late_list, due_list}
 use Rattle.footprint.proofs.reads_full.Goals as goal

@@ -6,10 +6,10 @@ use Rattle.manual.specs.declared.Machine.{Machine}
 use Rattle.manual.specs.Micro.{reads, stores}
 use Rattle.manual.specs.Stepping.{step}
 use Rattle.manual.specs.ReadList.{listed_step_full, listed_step}
-use Rattle.manual.specs.Theorems.Reads.{step_reads}
-use Rattle.manual.specs.Theorems.FewReads.{at_most_five_reads}
+use Rattle.manual.proofs.Theorems.Reads.{step_reads}
+use Rattle.manual.proofs.Theorems.FewReads.{at_most_five_reads}
 use Rattle.manual.specs.StoreList.{stored_by_step_full, stored_by_step}
-use Rattle.manual.specs.Theorems.Stores.{step_stores, at_most_three_stores}
+use Rattle.manual.proofs.Theorems.Stores.{step_stores, at_most_three_stores}
 use Rattle.footprint.specs.Places.{footprint_of, addresses}
 
 -- a list of at most five addresses is kept whole

@@ -1,7 +1,7 @@
 -- The room is tested first, then what the step would touch; then the line is served.
 use Rattle.std.proofs.Common.{sym, refl, ◌∙◌, arith}
-use Rattle.manual.specs.Theorems.Ranges.{vector_within}
-use Rattle.manual.specs.Lemmas.StepLaws.{step_serves}
+use Rattle.manual.proofs.Theorems.Ranges.{vector_within}
+use Rattle.manual.proofs.Lemmas.StepLaws.{step_serves}
 use Rattle.guard.specs.Lemmas.Guarding.{guarded_halts, guarded_goes_on, guarded_late, guarded_end}
 use Rattle.guard.proofs.serve_line.Goals as goal
 

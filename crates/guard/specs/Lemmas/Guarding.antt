@@ -13,8 +13,8 @@ use Rattle.manual.specs.Micro.{exec, Gives}
 use Rattle.manual.specs.Outcomes.{is_made}
 use Rattle.manual.specs.Interrupts.{nmi_vector, irq_vector, falls, calls, due}
 use Rattle.manual.specs.Stepping.{full_memory, highest_count, step_full}
-use Rattle.manual.specs.Theorems.Answers.{Way, late, serves, undefined, ready, way, not_quiet}
-use Rattle.manual.specs.Lemmas.StepLaws.{due_none, step_late, step_undefined, step_defined}
+use Rattle.manual.proofs.Theorems.Answers.{Way, late, serves, undefined, ready, way, not_quiet}
+use Rattle.manual.proofs.Lemmas.StepLaws.{due_none, step_late, step_undefined, step_defined}
 use Rattle.footprint.specs.Lemmas.Footprints.{late_list, due_list, due_stores}
 use Rattle.cpu.specs.Inner.Turning.{raised, stretch, Calm, going}
 use Rattle.cpu.specs.Lemmas.Turning.{going_fits, going_most, some}

@@ -1,14 +1,14 @@
 -- What the promise of `extract` is worth: the memory that it leaves may be handed out whole. `sealed` is any test of addresses.
 use Rattle.std.specs.Prelude.{◌≡◌, ℕ, Bool, true, false, cond, List, length, slice_index, refl}
-use Rattle.std.proofs.Common.{ap, sym, ◌∙◌, true≢false, arith, ext_get_or}
+use Rattle.std.proofs.Common.{ap, sym, ◌∙◌, true≢false, ext_get_or}
 use Rattle.manual.specs.declared.Lines.{Lines}
 use Rattle.manual.specs.declared.Machine.{Machine}
 use Rattle.manual.specs.declared.Ended.{Ended}
 use Rattle.manual.specs.Micro.{stores, Gives}
 use Rattle.manual.specs.Stepping.{full_memory, long_run}
 use Rattle.manual.specs.ReadList.{listed_long_run}
-use Rattle.manual.specs.Lemmas.Programs.{◌∈◌, exec_length}
-use Rattle.manual.specs.Theorems.Sealed.{Differ, Unsealed, long_run_sealed}
+use Rattle.manual.proofs.Lemmas.Programs.{◌∈◌, exec_length}
+use Rattle.manual.proofs.Theorems.Sealed.{Differ, Unsealed, long_run_sealed}
 use Rattle.guard_maps.specs.declared.Touch.{Touch}
 use Rattle.guard_maps.specs.Maps.{nowhere}
 use Rattle.guard.specs.declared.Guarded.{Guarded}

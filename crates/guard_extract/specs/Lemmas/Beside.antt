@@ -13,9 +13,9 @@ use Rattle.manual.specs.Outcomes.{number}
 use Rattle.manual.specs.Interrupts.{idle}
 use Rattle.manual.specs.Stepping.{full_memory, long_run}
 use Rattle.manual.specs.ReadList.{listed_long_run}
-use Rattle.manual.specs.Theorems.Reads.{long_run_reads}
-use Rattle.manual.specs.Lemmas.StepLaws.{long_short}
-use Rattle.manual.specs.Theorems.Sealed.{Differ, Unsealed}
+use Rattle.manual.proofs.Theorems.Reads.{long_run_reads}
+use Rattle.manual.proofs.Lemmas.StepLaws.{long_short}
+use Rattle.manual.proofs.Theorems.Sealed.{Differ, Unsealed}
 use Rattle.statuses.specs.declared.Goal.{Goal}
 use Rattle.statuses.specs.Statuses.{reached, end_status}
 use Rattle.statuses.specs.Theorems.Statuses.{only_where_reached}

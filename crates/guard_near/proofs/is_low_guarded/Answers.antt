@@ -1,4 +1,4 @@
-use Rattle.std.proofs.Common.{◌-◌, arith}
+use Rattle.std.proofs.Common.{arith}
 use Rattle.guard_near.specs.Lemmas.Near.{or_none, one_more, low_free}
 use Rattle.guard_near.proofs.is_low_guarded.Goals as goal
 

@@ -20,10 +20,10 @@ use Rattle.manual.specs.Interrupts.{falls}
 use Rattle.manual.specs.Stepping.{full_memory, highest_count, step_full, run_while, run_full}
 use Rattle.manual.specs.ReadList.{listed_step_full}
 use Rattle.manual.specs.StoreList.{stored_by_step_full}
-use Rattle.manual.specs.Lemmas.StepLaws.{due_none, step_late, step_serves, step_undefined, step_defined, was_made, was_refused, while_over, while_more, while_stop, run_more, run_stop, run_end}
-use Rattle.manual.specs.Theorems.Answers.{Way, late, serves, undefined, ready, way}
-use Rattle.manual.specs.Theorems.RunAnswers.{same}
-use Rattle.manual.specs.Theorems.Serving.{recorded, high_and_low}
+use Rattle.manual.proofs.Lemmas.StepLaws.{due_none, step_late, step_serves, step_undefined, step_defined, was_made, was_refused, while_over, while_more, while_stop, run_more, run_stop, run_end}
+use Rattle.manual.proofs.Theorems.Answers.{Way, late, serves, undefined, ready, way}
+use Rattle.manual.proofs.Theorems.RunAnswers.{same}
+use Rattle.manual.proofs.Theorems.Serving.{recorded, high_and_low}
 use Rattle.footprint.specs.Lemmas.Footprints.{due_list}
 use Rattle.guard_maps.specs.declared.Touch.{Touch}
 use Rattle.guard_maps.specs.declared.Ahead.{Ahead}

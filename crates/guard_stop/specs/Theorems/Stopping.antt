@@ -13,9 +13,9 @@ use Rattle.manual.specs.declared.Reason.TheVariants.{Made, MemoryNotFull, NoCycl
 use Rattle.manual.specs.Micro.{Micro, exec, Gives}
 use Rattle.manual.specs.Outcomes.{number, is_made, refused, ended}
 use Rattle.manual.specs.Stepping.{full_memory, step_full, run_while}
-use Rattle.manual.specs.Lemmas.StepLaws.{step_late, step_serves, step_undefined, step_defined, was_refused, while_over, while_more, while_stop}
-use Rattle.manual.specs.Theorems.Answers.{NoRoom, NoOpcode, Way, late, serves, undefined, ready, way}
-use Rattle.manual.specs.Theorems.RunAnswers.{Leads, same}
+use Rattle.manual.proofs.Lemmas.StepLaws.{step_late, step_serves, step_undefined, step_defined, was_refused, while_over, while_more, while_stop}
+use Rattle.manual.proofs.Theorems.Answers.{NoRoom, NoOpcode, Way, late, serves, undefined, ready, way}
+use Rattle.manual.proofs.Theorems.RunAnswers.{Leads, same}
 use Rattle.guard_stop.specs.Stop.{elsewhere, run_to, stop_answer}
 use Rattle.guard_stop.specs.Lemmas.Nearing.{to_short, to_whole}
 

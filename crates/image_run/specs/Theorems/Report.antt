@@ -18,11 +18,11 @@ use Rattle.manual.specs.Instructions.{applied, perform}
 use Rattle.manual.specs.Stepping.{run_while, act, attend, step_full, run_full, run, long_run, full_memory}
 use Rattle.manual.specs.Inner.Laying.{memory}
 use Rattle.registers.specs.InRange.{InRange}
-use Rattle.manual.specs.Theorems.Within.{Bytes}
-use Rattle.manual.specs.Theorems.Ranges.{run_ranges}
-use Rattle.manual.specs.Lemmas.StepLaws.{run_whole, long_whole}
-use Rattle.manual.specs.Theorems.Answers.{NoOpcode}
-use Rattle.manual.specs.Theorems.RunAnswers.{Leads, Ends, all_made_lem, no_cycle_room_lem, not_an_opcode_lem, run_all, run_ends}
+use Rattle.manual.proofs.Theorems.Within.{Bytes}
+use Rattle.manual.proofs.Theorems.Ranges.{run_ranges}
+use Rattle.manual.proofs.Lemmas.StepLaws.{run_whole, long_whole}
+use Rattle.manual.proofs.Theorems.Answers.{NoOpcode}
+use Rattle.manual.proofs.Theorems.RunAnswers.{Leads, Ends, all_made_lem, no_cycle_room_lem, not_an_opcode_lem, run_all, run_ends}
 use Rattle.laws.specs.Characters.{characters}
 use Rattle.text_writing.specs.Numerals.{digit, digits, decimal}
 use Rattle.trace_fields.specs.Fields.{machine_fields}

@@ -9,9 +9,9 @@ use Rattle.manual.specs.Micro.{exec, Gives}
 use Rattle.manual.specs.Outcomes.{ended}
 use Rattle.manual.specs.Interrupts.{idle}
 use Rattle.manual.specs.Stepping.{full_memory, long_run}
-use Rattle.manual.specs.Lemmas.StepLaws.{long_short, long_whole}
-use Rattle.manual.specs.Theorems.RunAnswers.{Ends, all_made_lem, no_cycle_room_lem, not_an_opcode_lem, run_ends}
-use Rattle.manual.specs.Theorems.Lunch.{added, added_none, added_twice, full_lunch, full_stopped}
+use Rattle.manual.proofs.Lemmas.StepLaws.{long_short, long_whole}
+use Rattle.manual.proofs.Theorems.RunAnswers.{Ends, all_made_lem, no_cycle_room_lem, not_an_opcode_lem, run_ends}
+use Rattle.manual.proofs.Theorems.Lunch.{added, added_none, added_twice, full_lunch, full_stopped}
 
 made_all : {k : ℕ} {s : Machine} {m : List ℕ} {q : Ended} {m' : List ℕ} → Ends k idle s m q m' → q.reason ≡ Made → q.steps ≡ k
 made_all (all_made_lem led) p = refl

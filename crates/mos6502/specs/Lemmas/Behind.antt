@@ -1,5 +1,5 @@
 -- The definition's answer behind the numbers of a call: how the three runs end, and that the numbers hold the machine that is left.
-use Rattle.std.specs.Prelude.{ℕ, zero, suc, ◌+◌, ◌≤◌, ◌<◌, ◌≡◌, refl, Bool, true, false, ◌↔◌, ◌⊎◌, List}
+use Rattle.std.specs.Prelude.{ℕ, zero, suc, ◌+◌, ◌≤◌, ◌≡◌, refl, Bool, true, false, ◌↔◌, ◌⊎◌, List}
 use Rattle.std.proofs.Common.{ap, sym, ◌∙◌, subst, ⊎_elim, arith}
 use Rattle.manual.specs.declared.Lines.{Lines}
 use Rattle.manual.specs.declared.Machine.{Machine}
@@ -9,13 +9,13 @@ use Rattle.manual.specs.declared.Reason.TheVariants.{Made, MemoryNotFull, NoCycl
 use Rattle.manual.specs.Micro.{Micro, done, exec, ◌>>=◌, Gives}
 use Rattle.manual.specs.Outcomes.{number, is_made}
 use Rattle.manual.specs.Stepping.{full_memory, highest_bound}
-use Rattle.manual.specs.Lemmas.Programs.{exec_bind}
-use Rattle.manual.specs.Lemmas.StepLaws.{was_refused}
-use Rattle.manual.specs.Theorems.Answers.{NoRoom, NoOpcode}
-use Rattle.manual.specs.Theorems.RunAnswers.{Leads, Ends, all_made_lem, no_cycle_room_lem, not_an_opcode_lem, RunTable, ran, memory_not_full_lem, bound_too_high_lem, LongTable, long_ran, long_not_full}
-use Rattle.manual.specs.Theorems.Spending.{CycleTable, ran as spent-ran, memory_not_full_lem as cycles-not-full, limit_too_high, ends, spent, no_cycle_room_lem as late-unspent, not_an_opcode_lem as undefined-unspent}
+use Rattle.manual.proofs.Lemmas.Programs.{exec_bind}
+use Rattle.manual.proofs.Lemmas.StepLaws.{was_refused}
+use Rattle.manual.proofs.Theorems.Answers.{NoRoom, NoOpcode}
+use Rattle.manual.proofs.Theorems.RunAnswers.{Leads, Ends, all_made_lem, no_cycle_room_lem, not_an_opcode_lem, RunTable, ran, memory_not_full_lem, bound_too_high_lem, LongTable, long_ran, long_not_full}
+use Rattle.manual.proofs.Theorems.Spending.{CycleTable, ran as spent-ran, memory_not_full_lem as cycles-not-full, limit_too_high, ends, spent, no_cycle_room_lem as late-unspent, not_an_opcode_lem as undefined-unspent}
 use Rattle.registers.specs.InRange.{InRange}
-use Rattle.mos6502_numbers.specs.Packed.{packed, unpacked}
+use Rattle.mos6502_numbers.specs.Packed.{unpacked}
 use Rattle.mos6502_numbers.specs.Lemmas.RoundTrip.{unpacked_packed, level_packed}
 use Rattle.mos6502_numbers.specs.Machines.{machine_from, registers_after, cycles_after}
 

@@ -9,8 +9,8 @@ use Rattle.manual.specs.declared.Reason.TheVariants.{Made}
 use Rattle.manual.specs.Micro.{exec, Gives}
 use Rattle.manual.specs.Outcomes.{number, ended}
 use Rattle.manual.specs.Stepping.{run_full}
-use Rattle.manual.specs.Lemmas.StepLaws.{run_end}
-use Rattle.manual.specs.Theorems.Lunch.{added, added_none, added_twice}
+use Rattle.manual.proofs.Lemmas.StepLaws.{run_end}
+use Rattle.manual.proofs.Theorems.Lunch.{added, added_none, added_twice}
 use Rattle.cpu.specs.declared.Travelled.{Travelled}
 use Rattle.cpu.specs.Inner.Turning.{Fits, going, turning, settled}
 use Rattle.cpu.specs.Lemmas.Turning.{going_fits, going_most, turn_few, turn_stops, turn_goes}

@@ -13,11 +13,11 @@ use Rattle.manual.specs.Micro.{exec, stores}
 use Rattle.manual.specs.Outcomes.{number}
 use Rattle.manual.specs.Stepping.{full_memory, highest_bound, step, run, long_run, run_cycles}
 use Rattle.manual.specs.ReadList.{listed_step, listed_run, listed_long_run, listed_run_cycles}
-use Rattle.manual.specs.Theorems.Answers.{NoRoom, NoOpcode, Served, Ready}
-use Rattle.manual.specs.Theorems.RunAnswers.{Leads}
-use Rattle.manual.specs.Theorems.Spending.{Before}
-use Rattle.manual.specs.Theorems.Sealed.{Differ, Unsealed, Kept}
-use Rattle.manual.specs.Theorems.Within.{Bytes}
+use Rattle.manual.proofs.Theorems.Answers.{NoRoom, NoOpcode, Served, Ready}
+use Rattle.manual.proofs.Theorems.RunAnswers.{Leads}
+use Rattle.manual.proofs.Theorems.Spending.{Before}
+use Rattle.manual.proofs.Theorems.Sealed.{Differ, Unsealed, Kept}
+use Rattle.manual.proofs.Theorems.Within.{Bytes}
 use Rattle.mos6502_numbers.specs.Machines.{machine_from, lines_from}
 use Rattle.mos6502.specs.Numbers.{StepNumbers, RunNumbers}
 use Rattle.mos6502.specs.Calls.{StepCall, RunCall, LongRunCall, CyclesCall}

@@ -1,22 +1,21 @@
 -- The theorem `correct`: all that Correct.antt says of the C functions holds.
-use Rattle.std.specs.Prelude.{ℕ, ◌+◌, ◌≤◌, ◌≡◌, refl, Bool, true, false, ◌↔◌, List, ltb, length}
+use Rattle.std.specs.Prelude.{ℕ, ◌+◌, ◌≤◌, ◌≡◌, refl, false, ◌↔◌, List, ltb, length}
 use Rattle.std.proofs.Common.{ap, sym, ◌∙◌, subst, arith, ltb-false}
 use Rattle.manual.specs.declared.Lines.{Lines}
 use Rattle.manual.specs.declared.Machine.{Machine}
 use Rattle.manual.specs.declared.Stepped.{Stepped}
 use Rattle.manual.specs.declared.Ended.{Ended}
-use Rattle.manual.specs.declared.Reason.{Reason}
-use Rattle.manual.specs.Micro.{Micro, exec, stores, Gives}
+use Rattle.manual.specs.Micro.{Micro, exec}
 use Rattle.manual.specs.Outcomes.{number, is_made, refused}
 use Rattle.manual.specs.Stepping.{full_memory, highest_bound, step, run, long_run, run_cycles}
-use Rattle.manual.specs.Lemmas.StepLaws.{not_made}
-use Rattle.manual.specs.Theorems.OneResult.{one_result}
-use Rattle.manual.specs.Theorems.Answers.{NoRoom, NoOpcode, step_answers}
-use Rattle.manual.specs.Theorems.RunAnswers.{Leads, run_answers, long_run_answers}
-use Rattle.manual.specs.Theorems.Spending.{Before, run_cycles_answers, run_cycles_sealed, fewer_before}
-use Rattle.manual.specs.Theorems.Sealed.{Differ, Unsealed, Kept, step_sealed, run_sealed_lem, long_run_sealed}
-use Rattle.manual.specs.Theorems.Within.{Bytes}
-use Rattle.manual.specs.Theorems.Ranges.{step_ranges, run_ranges, long_run_ranges, run_cycles_ranges}
+use Rattle.manual.proofs.Lemmas.StepLaws.{not_made}
+use Rattle.manual.proofs.Theorems.OneResult.{one_result}
+use Rattle.manual.proofs.Theorems.Answers.{NoRoom, NoOpcode, step_answers}
+use Rattle.manual.proofs.Theorems.RunAnswers.{Leads, run_answers, long_run_answers}
+use Rattle.manual.proofs.Theorems.Spending.{Before, run_cycles_answers, run_cycles_sealed, fewer_before}
+use Rattle.manual.proofs.Theorems.Sealed.{Differ, Kept, step_sealed, run_sealed_lem, long_run_sealed}
+use Rattle.manual.proofs.Theorems.Within.{Bytes}
+use Rattle.manual.proofs.Theorems.Ranges.{step_ranges, run_ranges, long_run_ranges, run_cycles_ranges}
 use Rattle.registers.specs.InRange.{InRange}
 use Rattle.mos6502_numbers.specs.Machines.{machine_from, lines_from}
 use Rattle.mos6502.specs.Numbers.{StepNumbers, RunNumbers, step_numbers, run_numbers, step_on_numbers, run_on_numbers, long_run_on_numbers, run_cycles_on_numbers}

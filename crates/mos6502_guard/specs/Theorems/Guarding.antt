@@ -5,7 +5,7 @@ use Rattle.laws.specs.Answers.{would_read, would_store}
 use Rattle.manual.specs.declared.Reason.{Reason}
 use Rattle.manual.specs.declared.Reason.TheVariants.{Made, MemoryNotFull, NoCycleRoom, NotAnOpcode, BoundTooHigh}
 use Rattle.manual.specs.Outcomes.{number}
-use Rattle.manual.specs.Theorems.Sealed.{Differ}
+use Rattle.manual.proofs.Theorems.Sealed.{Differ}
 use Rattle.mos6502_numbers.specs.Machines.{machine_from, lines_from}
 use Rattle.guard.specs.Guarded.{guarded}
 use Rattle.guard.specs.Lemmas.AnyGuard.{Under}

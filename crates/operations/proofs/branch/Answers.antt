@@ -8,7 +8,7 @@ use Rattle.instruction.specs.declared.AddressingMode.TheVariants.{Accumulator, I
 use Rattle.manual.specs.Micro.{exec, Gives}
 use Rattle.manual.specs.Addressing.{target}
 use Rattle.manual.specs.Branching.{branched}
-use Rattle.manual.specs.Lemmas.InstructionLaws.{branch_gives}
+use Rattle.manual.proofs.Lemmas.InstructionLaws.{branch_gives}
 use Rattle.operations.proofs.branch.Goals as goal
 
 aimed : (mode : AddressingMode) (r : Registers) (m : List ℕ) → Gives (target mode r) m (exec (target mode r) m).0 m

@@ -1,6 +1,6 @@
 -- The counter goes where the mode leads.
 use mathlib.Core.Path.{◌∙◌}
-use Rattle.manual.specs.Lemmas.InstructionLaws.{jump_gives}
+use Rattle.manual.proofs.Lemmas.InstructionLaws.{jump_gives}
 use Rattle.operations.proofs.jump.Goals as goal
 
 pub returns : goal.returns

@@ -1,7 +1,7 @@
 -- The byte where the mode leads is read, changed and stored.
 use mathlib.Core.Path.{◌∙◌}
 use Rattle.manual.specs.Instructions.{perform}
-use Rattle.manual.specs.Lemmas.InstructionLaws.{modify_memory_gives}
+use Rattle.manual.proofs.Lemmas.InstructionLaws.{modify_memory_gives}
 use Rattle.operations.proofs.modify.Goals as goal
 
 pub returns : goal.returns

@@ -1,6 +1,6 @@
 -- The accumulator takes the changed byte, and the flags show it.
 use mathlib.Core.Path.{◌∙◌}
-use Rattle.manual.specs.Lemmas.InstructionLaws.{modify_accumulator_done}
+use Rattle.manual.proofs.Lemmas.InstructionLaws.{modify_accumulator_done}
 use Rattle.operations.proofs.modify_accumulator.Goals as goal
 
 pub returns : goal.returns

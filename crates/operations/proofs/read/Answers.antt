@@ -1,6 +1,6 @@
 -- The target's byte is taken, and a page cross is charged.
 use mathlib.Core.Path.{◌∙◌}
-use Rattle.manual.specs.Lemmas.InstructionLaws.{read_gives}
+use Rattle.manual.proofs.Lemmas.InstructionLaws.{read_gives}
 use Rattle.operations.proofs.read.Goals as goal
 
 pub returns : goal.returns

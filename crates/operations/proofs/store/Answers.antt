@@ -1,6 +1,6 @@
 -- The register is stored where the mode leads.
 use mathlib.Core.Path.{◌∙◌}
-use Rattle.manual.specs.Lemmas.InstructionLaws.{store_gives}
+use Rattle.manual.proofs.Lemmas.InstructionLaws.{store_gives}
 use Rattle.operations.proofs.store.Goals as goal
 
 pub returns : goal.returns

@@ -2,7 +2,7 @@
 use mathlib.Core.Path.{◌∙◌}
 use native.Mathlib.Omega.{arith}
 use Rattle.registers.specs.State.{flags}
-use Rattle.manual.specs.Lemmas.InstructionLaws.{enter_gives}
+use Rattle.manual.proofs.Lemmas.InstructionLaws.{enter_gives}
 use Rattle.stack.proofs.enter.Goals as goal
 
 pub shape_of-memory : goal.shape_of-memory

@@ -1,6 +1,6 @@
 -- The way in, from the address past the second byte and with the status as PHP pushes it.
 use mathlib.Core.Path.{◌∙◌}
-use Rattle.manual.specs.Lemmas.InstructionLaws.{break_gives}
+use Rattle.manual.proofs.Lemmas.InstructionLaws.{break_gives}
 use Rattle.stack.proofs.force_break.Goals as goal
 
 pub returns : goal.returns

@@ -1,6 +1,6 @@
 -- The low byte is read, the return address pushed, and then the high byte read.
 use mathlib.Core.Path.{◌∙◌}
-use Rattle.manual.specs.Lemmas.InstructionLaws.{call_gives}
+use Rattle.manual.proofs.Lemmas.InstructionLaws.{call_gives}
 use Rattle.stack.proofs.jump_to_subroutine.Goals as goal
 
 pub returns : goal.returns

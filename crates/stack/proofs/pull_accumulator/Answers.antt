@@ -1,6 +1,6 @@
 -- The pulled byte is loaded.
 use mathlib.Core.Path.{◌∙◌}
-use Rattle.manual.specs.Lemmas.InstructionLaws.{pull_accumulator_gives}
+use Rattle.manual.proofs.Lemmas.InstructionLaws.{pull_accumulator_gives}
 use Rattle.stack.proofs.pull_accumulator.Goals as goal
 
 pub returns : goal.returns

@@ -1,6 +1,6 @@
 -- The pulled byte becomes the status.
 use mathlib.Core.Path.{◌∙◌}
-use Rattle.manual.specs.Lemmas.InstructionLaws.{pull_status_gives}
+use Rattle.manual.proofs.Lemmas.InstructionLaws.{pull_status_gives}
 use Rattle.stack.proofs.pull_status.Goals as goal
 
 pub returns : goal.returns

@@ -1,6 +1,6 @@
 -- The accumulator is pushed.
 use mathlib.Core.Path.{◌∙◌}
-use Rattle.manual.specs.Lemmas.InstructionLaws.{push_accumulator_gives}
+use Rattle.manual.proofs.Lemmas.InstructionLaws.{push_accumulator_gives}
 use Rattle.stack.proofs.push_accumulator.Goals as goal
 
 pub returns : goal.returns

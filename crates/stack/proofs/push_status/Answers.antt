@@ -1,6 +1,6 @@
 -- The status is pushed as a byte.
 use mathlib.Core.Path.{◌∙◌}
-use Rattle.manual.specs.Lemmas.InstructionLaws.{push_status_gives}
+use Rattle.manual.proofs.Lemmas.InstructionLaws.{push_status_gives}
 use Rattle.stack.proofs.push_status.Goals as goal
 
 pub returns : goal.returns

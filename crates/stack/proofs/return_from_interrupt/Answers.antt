@@ -1,6 +1,6 @@
 -- The status comes off first, then the counter.
 use mathlib.Core.Path.{◌∙◌}
-use Rattle.manual.specs.Lemmas.InstructionLaws.{return_from_interrupt_gives}
+use Rattle.manual.proofs.Lemmas.InstructionLaws.{return_from_interrupt_gives}
 use Rattle.stack.proofs.return_from_interrupt.Goals as goal
 
 pub returns : goal.returns

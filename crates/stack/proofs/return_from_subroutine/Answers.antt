@@ -1,6 +1,6 @@
 -- The counter goes one past what was pulled.
 use mathlib.Core.Path.{◌∙◌}
-use Rattle.manual.specs.Lemmas.InstructionLaws.{return_gives}
+use Rattle.manual.proofs.Lemmas.InstructionLaws.{return_gives}
 use Rattle.stack.proofs.return_from_subroutine.Goals as goal
 
 pub returns : goal.returns

@@ -1,5 +1,5 @@
 -- The way in, from the counter itself and with the byte that a line pushes.
-use Rattle.manual.specs.Lemmas.InstructionLaws.{served_gives}
+use Rattle.manual.proofs.Lemmas.InstructionLaws.{served_gives}
 use Rattle.stack.proofs.serve.Goals as goal
 
 pub returns : goal.returns

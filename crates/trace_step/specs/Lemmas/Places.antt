@@ -8,7 +8,7 @@ use Rattle.manual.specs.declared.Stepped.{Stepped}
 use Rattle.manual.specs.Micro.{Gives}
 use Rattle.manual.specs.Interrupts.{idle}
 use Rattle.manual.specs.Stepping.{full_memory, step}
-use Rattle.manual.specs.Lemmas.StepLaws.{step_short}
+use Rattle.manual.proofs.Lemmas.StepLaws.{step_short}
 use Rattle.trace_step.specs.Following.{leads_to, chosen, followed}
 
 module _ (s next : Machine) (m : List ℕ) where

@@ -5,7 +5,7 @@ use mathlib.Core.Path.{◌≡◌, refl, sym, ◌∙◌}
 use native.Mathlib.Omega.{arith}
 use lib.ListN.{length, take}
 use lib.Seq.{length-take-le}
-use Rattle.manual.specs.Lemmas.StepLaws.{step_whole}
+use Rattle.manual.proofs.Lemmas.StepLaws.{step_whole}
 use Rattle.text_writing.specs.Written.{Wrote}
 use Rattle.text_writing.specs.Lemmas.Texts.{nothing, read_back}
 use Rattle.listing.specs.Lines.{instruction_at, longest_instruction}

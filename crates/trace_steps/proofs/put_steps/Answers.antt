@@ -3,7 +3,7 @@ use mathlib.Core.Path.{◌≡◌, refl, sym, ◌∙◌}
 use mathlib.Core.Bool.{true, false}
 use native.Mathlib.Omega.{arith}
 use Rattle.manual.specs.Outcomes.{is_made}
-use Rattle.manual.specs.Lemmas.StepLaws.{long_short, long_whole}
+use Rattle.manual.proofs.Lemmas.StepLaws.{long_short, long_whole}
 use Rattle.text_writing.specs.Lemmas.Texts.{nothing}
 use Rattle.text_writing.specs.Lemmas.Left.{less_left, none_left}
 use Rattle.trace_text.specs.Lemmas.Findings.{one_longer, no_longer}

@@ -1,6 +1,6 @@
 -- The sum with the complement is the difference.
 use Rattle.std.proofs.Common.{◌∙◌, rules}
-use Rattle.manual.specs.Theorems.Complement.{complement}
+use Rattle.manual.proofs.Theorems.Complement.{complement}
 use Rattle.arithmetic.proofs.binary.sbc_binary.Goals as goal
 
 pub returns : goal.returns

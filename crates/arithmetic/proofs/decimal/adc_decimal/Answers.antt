@@ -1,6 +1,6 @@
 -- One rule serves all operands, and both digits are those of it: what was returned, from the last call back to the first.
 use Rattle.manual.specs.Decimal.{rust_sum}
-use Rattle.manual.specs.Theorems.DecimalDigits.{sum_by_digits}
+use Rattle.manual.proofs.Theorems.DecimalDigits.{sum_by_digits}
 use Rattle.arithmetic.proofs.decimal.adc_decimal.Goals as goal
 
 pub returns : goal.returns

@@ -1,6 +1,6 @@
 -- The run refuses an image of another length by itself.
 use mathlib.Core.Path.{◌∙◌}
-use Rattle.manual.specs.Lemmas.StepLaws.{long_short}
+use Rattle.manual.proofs.Lemmas.StepLaws.{long_short}
 use Rattle.image_run.specs.Lemmas.Report.{started}
 use Rattle.console.specs.Theorems.Failing.{stays_on}
 use borrow.Author.Rules.{rules}

@@ -1,4 +1,4 @@
-use Rattle.std.proofs.Common.{◌≡◌, ◌-◌, length, sym, ap, ◌∙◌, arith, length-set}
+use Rattle.std.proofs.Common.{◌≡◌, length, sym, ap, ◌∙◌, arith, length-set}
 use Rattle.guard.specs.Lemmas.Blanking.{none_yet, one_blanked, one_left, all_blanked}
 use Rattle.guard.proofs.extract.blank.Goals as goal
 use Rattle.guard.proofs.extract.blank.Goals.{then-is_in, else-is_in}

@@ -1,7 +1,6 @@
 -- Each arm is its class; the others store, and are not asked for.
 use mathlib.Core.Path.{◌≡◌, refl, sym, ◌∙◌}
-use mathlib.Core.Bool.{true, false, true≢false}
-use mathlib.Core.List.{[], ◌∷◌}
+use mathlib.Core.Bool.{true, true≢false}
 use borrow.Author.Tests.{eqb-true, not-false}
 use Rattle.instruction.specs.declared.Instruction.{Instruction}
 use Rattle.instruction.specs.declared.Instruction.TheVariants.{Read, Store, Modify, Branch, Internal, BRK, JMP, JSR, PHA, PHP, PLA, PLP, RTI, RTS}
@@ -11,7 +10,7 @@ use Rattle.instruction.specs.declared.BranchOperation.{BranchOperation}
 use Rattle.instruction.specs.declared.InternalOperation.{InternalOperation}
 use Rattle.instruction.specs.declared.AddressingMode.{AddressingMode}
 use Rattle.opcode_numbers.specs.Inner.Storing.{stores_in}
-use Rattle.manual.specs.Lemmas.Programs.{at_once}
+use Rattle.manual.proofs.Lemmas.Programs.{at_once}
 use Rattle.opcode_effects.proofs.keeping.execute_keeping.Goals as goal
 
 the_others : (i : Instruction) (mode : AddressingMode)

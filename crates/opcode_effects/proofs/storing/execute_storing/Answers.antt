@@ -1,7 +1,6 @@
 -- Each arm is its class; the others store nothing, and are not asked for.
 use mathlib.Core.Path.{◌≡◌, refl, sym, ◌∙◌}
-use mathlib.Core.Bool.{true, false, true≢false}
-use mathlib.Core.List.{[], ◌∷◌}
+use mathlib.Core.Bool.{false, true≢false}
 use borrow.Author.Tests.{eqb-false, not-true}
 use Rattle.instruction.specs.declared.Instruction.{Instruction}
 use Rattle.instruction.specs.declared.Instruction.TheVariants.{Read, Store, Modify, Branch, Internal, BRK, JMP, JSR, PHA, PHP, PLA, PLP, RTI, RTS}

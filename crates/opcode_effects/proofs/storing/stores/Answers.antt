@@ -5,7 +5,7 @@ use Rattle.opcode_numbers.specs.Inner.Operations.{operation_at, mode_at}
 use Rattle.opcode_numbers.specs.Lemmas.Storing.{storing_at_lem}
 use Rattle.manual.specs.Micro.{Gives}
 use Rattle.manual.specs.Instructions.{perform}
-use Rattle.manual.specs.Lemmas.Extra.{extra_of}
+use Rattle.manual.proofs.Lemmas.Extra.{extra_of}
 use Rattle.opcode_effects.specs.Theorems.Rows.{entry_performed}
 use Rattle.opcode_effects.proofs.storing.stores.Goals as goal
 

@@ -8,8 +8,8 @@ use borrow.Author.Tests.{not-true, not-false}
 use Rattle.manual.specs.Micro.{exec}
 use Rattle.manual.specs.Interrupts.{idle}
 use Rattle.manual.specs.Stepping.{long_run}
-use Rattle.manual.specs.Lemmas.StepLaws.{was_made, was_refused}
-use Rattle.manual.specs.Theorems.Lunch.{added}
+use Rattle.manual.proofs.Lemmas.StepLaws.{was_made, was_refused}
+use Rattle.manual.proofs.Theorems.Lunch.{added}
 use Rattle.manual_parts.specs.Lemmas.Parts.{Whole, long_steps, begun, turn, halt}
 use Rattle.program_go.proofs.running.run_on.Statement.{statement}
 use Rattle.program_go.proofs.running.run_on.Tie as tie

@@ -1,6 +1,6 @@
 -- The run refuses an image of another length by itself.
 use Rattle.std.proofs.Common.{◌∙◌}
-use Rattle.manual.specs.Lemmas.StepLaws.{run_short}
+use Rattle.manual.proofs.Lemmas.StepLaws.{run_short}
 use Rattle.image_run.specs.Lemmas.Report.{started}
 use Rattle.program_report.proofs.image.run_image.Goals as goal
 

@@ -1,6 +1,6 @@
 -- Two pulls, one after the other.
 use mathlib.Core.Path.{◌∙◌}
-use Rattle.manual.specs.Lemmas.InstructionLaws.{pull_address_gives}
+use Rattle.manual.proofs.Lemmas.InstructionLaws.{pull_address_gives}
 use Rattle.stack.proofs.bytes.pull_address.Goals as goal
 
 pub returns : goal.returns

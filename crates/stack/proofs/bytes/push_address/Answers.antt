@@ -1,5 +1,5 @@
 -- Two pushes, one after the other.
-use Rattle.manual.specs.Lemmas.InstructionLaws.{push_address_gives}
+use Rattle.manual.proofs.Lemmas.InstructionLaws.{push_address_gives}
 use Rattle.stack.proofs.bytes.push_address.Goals as goal
 
 pub returns : goal.returns

@@ -11,8 +11,8 @@ use Rattle.manual.specs.declared.Reason.TheVariants.{Made, MemoryNotFull, NoCycl
 use Rattle.manual.specs.Micro.{exec, Gives}
 use Rattle.manual.specs.Outcomes.{refused, ended}
 use Rattle.manual.specs.Stepping.{full_memory, highest_bound, step_full, run_full, run, long_run}
-use Rattle.manual.specs.Lemmas.StepLaws.{step_late, step_serves, step_undefined, step_defined, run_short, run_long, run_whole, long_short, long_whole, run_end, run_more, run_stop}
-use Rattle.manual.specs.Theorems.Answers.{NoRoom, NoOpcode, Way, late, serves, undefined, ready, way}
+use Rattle.manual.proofs.Lemmas.StepLaws.{step_late, step_serves, step_undefined, step_defined, run_short, run_long, run_whole, long_short, long_whole, run_end, run_more, run_stop}
+use Rattle.manual.proofs.Theorems.Answers.{NoRoom, NoOpcode, Way, late, serves, undefined, ready, way}
 
 -- k steps of the definition, each of them made, lead from the machine s and the memory m to s' and m'
 abbrev pub Leads : ℕ → Lines → Machine → List ℕ → Machine → List ℕ → Type 0

@@ -13,9 +13,9 @@ use Rattle.manual.specs.declared.Reason.TheVariants.{Made, MemoryNotFull, NoCycl
 use Rattle.manual.specs.Outcomes.{refused, ended}
 use Rattle.manual.specs.Interrupts.{due}
 use Rattle.manual.specs.Stepping.{step_full, step, run_while, run_full, run}
-use Rattle.manual.specs.Lemmas.StepLaws.{opcode_of, step_late}
-use Rattle.manual.specs.Theorems.Answers.{step_answer, step_answers}
-use Rattle.manual.specs.Theorems.RunAnswers.{no_cycle_room_lem, ran, run_answers}
+use Rattle.manual.proofs.Lemmas.StepLaws.{opcode_of, step_late}
+use Rattle.manual.proofs.Theorems.Answers.{step_answer, step_answers}
+use Rattle.manual.proofs.Theorems.RunAnswers.{no_cycle_room_lem, ran, run_answers}
 
 module _ (lines : Lines) (s : Machine) (m : List ℕ) where
   -- A memory of 65,535 bytes gives 1, and so does one of 65,537; one of 65,536 is stepped, and run.

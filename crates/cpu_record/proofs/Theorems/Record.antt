@@ -7,16 +7,16 @@ use Rattle.manual.specs.declared.Machine.{Machine}
 use Rattle.manual.specs.declared.Stepped.{Stepped}
 use Rattle.manual.specs.declared.Reason.{Reason}
 use Rattle.manual.specs.declared.Reason.TheVariants.{Made, MemoryNotFull, NoCycleRoom, NotAnOpcode, BoundTooHigh}
-use Rattle.manual.specs.Micro.{exec, stores, Gives}
+use Rattle.manual.specs.Micro.{stores, Gives}
 use Rattle.manual.specs.Outcomes.{number, is_made, stepped}
 use Rattle.manual.specs.Stepping.{step}
 use Rattle.manual.specs.ReadList.{listed_step}
-use Rattle.manual.specs.Lemmas.Programs.{exec_then}
-use Rattle.manual.specs.Theorems.OneResult.{one_result}
-use Rattle.manual.specs.Theorems.Sealed.{Differ, Unsealed, Kept, step_sealed}
-use Rattle.manual.specs.Lemmas.StepLaws.{step_whole}
-use Rattle.manual.specs.Theorems.Answers.{step_answers}
-use Rattle.manual.specs.Theorems.Serving.{recorded}
+use Rattle.manual.proofs.Lemmas.Programs.{exec_then}
+use Rattle.manual.proofs.Theorems.OneResult.{one_result}
+use Rattle.manual.proofs.Theorems.Sealed.{Differ, Unsealed, Kept, step_sealed}
+use Rattle.manual.proofs.Lemmas.StepLaws.{step_whole}
+use Rattle.manual.proofs.Theorems.Answers.{step_answers}
+use Rattle.manual.proofs.Theorems.Serving.{recorded}
 use Rattle.cpu_record.specs.declared.StepAnswer.{StepAnswer}
 use Rattle.cpu_record.specs.Record.{told, step_record}
 

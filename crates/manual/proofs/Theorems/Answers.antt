@@ -17,7 +17,7 @@ use Rattle.manual.specs.Micro.{exec, Gives}
 use Rattle.manual.specs.Outcomes.{number, refused}
 use Rattle.manual.specs.Interrupts.{due}
 use Rattle.manual.specs.Stepping.{full_memory, highest_count, step_full, step}
-use Rattle.manual.specs.Lemmas.StepLaws.{opcode_of, step_short, step_whole, step_late, step_serves, step_undefined, step_defined}
+use Rattle.manual.proofs.Lemmas.StepLaws.{opcode_of, step_short, step_whole, step_late, step_serves, step_undefined, step_defined}
 
 -- why a step on a full memory is refused: no room, or, with no line to serve, no opcode
 abbrev pub NoRoom : Machine → Type 0
