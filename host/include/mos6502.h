@@ -1,4 +1,4 @@
-/* The runs of the proved core, for a host in C or C++: link target/staticlib/libmos6502.a, which `rt staticlib mos6502` writes for
+/* The runs of the proved core, for a host in C or C++: link target/staticlib/libmos6502.a, which `tools/build mos6502` writes for
  * x86-64. For Arm `host/native-archive mos6502 aarch64` writes target/staticlib/aarch64/libmos6502.a, from the same bitcode. The
  * other archives are built likewise. One step is in mos6502_step.h.
  *
