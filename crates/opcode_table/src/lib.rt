@@ -89,6 +89,7 @@ pub(crate) fn table() -> OpcodeTable
 }
 
 // What an opcode means.
+#[tactic(auto, using(crate::specs::Theorems::Arrays::entry_defined, crate::specs::Theorems::Arrays::entry_undefined))]
 pub fn decode(opcode: u8) -> Decoded
     ensures { result ≡ decoded opcode }
 {

@@ -130,16 +130,9 @@ fn load_image(
 fn load_zeros(rt: HostRuntime, names: Names, tape: &[u8], failed: &mut u8) -> u8
     ensures { result ≡ first_of failed.new (read_text tape.now (replicate full_memory 0)).answer }
 {
-    let zeros = image_buffer();
-    let mut image = image_buffer();
-    load_onto(
-        rt,
-        names,
-        tape,
-        &zeros[..FULL_MEMORY],
-        &mut image[..FULL_MEMORY],
-        failed,
-    )
+    let zeros = [0u8; FULL_MEMORY];
+    let mut image = [0u8; FULL_MEMORY];
+    load_onto(rt, names, tape, &zeros, &mut image, failed)
 }
 
 // Loads a tape that was read.

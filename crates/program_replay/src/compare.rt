@@ -1,5 +1,5 @@
 // One step of the core against what a text line says of it.
-ghost use Rattle.std.specs.Prelude.{◌≡◌, length};
+ghost use Rattle.std.specs.Prelude.{◌≡◌, true, length};
 ghost use Rattle.manual.specs.Micro.{exec};
 ghost use Rattle.manual.specs.Stepping.{step};
 ghost use Rattle.program_replay.specs.Comparison.{machine_at, lines_at, levels_byte, compared, judged};
@@ -51,6 +51,7 @@ fn lines_at(state: State) -> Lines
 }
 
 // The levels as a text line has them: the present ones, and the last one of NMI.
+#[tactic(auto, unfolding(crate::specs::Comparison::levels_byte))]
 fn levels_byte(lines: Lines, nmi: bool) -> u8
     ensures { result ≡ levels_byte lines nmi }
 {
@@ -58,6 +59,7 @@ fn levels_byte(lines: Lines, nmi: bool) -> u8
 }
 
 // The status is compared as the byte that PHP pushes, and the last level of NMI with the present ones, which hold.
+#[tactic(auto, unfolding(crate::specs::Comparison::compared))]
 fn compare(machine: Machine, lines: Lines, state: State, same: bool) -> Verdict
     ensures { result ≡ compared machine lines state same }
 {
@@ -92,7 +94,16 @@ fn compare(machine: Machine, lines: Lines, state: State, same: bool) -> Verdict
     Verdict::Memory
 }
 
+// Whether two memories hold the same bytes.
+fn same(memory: &[u8], expected: &[u8]) -> bool
+    ensures alike { result ≡ true → memory.now ≡ expected.now }
+    ensures told { memory.now ≡ expected.now → result ≡ true }
+{
+    memory == expected
+}
+
 // Makes the step by a lent record, and compares the answer, the machine and the whole memory after it.
+#[tactic(auto, unfolding(crate::specs::Comparison::judged))]
 pub(crate) fn judge(before: State, after: State, memory: &mut [u8], expected: &[u8]) -> Verdict
     ensures { result
         ≡ judged
@@ -107,5 +118,5 @@ pub(crate) fn judge(before: State, after: State, memory: &mut [u8], expected: &[
     if reason.number() != after.number {
         return Verdict::Answer;
     }
-    compare(stepped.machine, lines, after, &*memory == expected)
+    compare(stepped.machine, lines, after, same(memory, expected))
 }

@@ -27,6 +27,7 @@ fn clear(memory: &mut [u8])
 }
 
 // The end of a line; one space may stand before it, if the last list is empty.
+#[tactic(auto, unfolding(crate::specs::Verdicts::end_at))]
 fn read_end(text: &[u8], at: usize) -> usize
     ensures { result ≡ end_at text.now at }
 {
@@ -39,6 +40,7 @@ fn read_end(text: &[u8], at: usize) -> usize
 
 // Whether a line names the opcode that its memory has, three levels, and a status that PHP can push: a wrong digit there changes
 // no step.
+#[tactic(auto, unfolding(crate::specs::Verdicts::well_formed))]
 fn is_well_formed(before: State, memory: &[u8]) -> bool
     ensures { result ≡ well_formed before memory.now }
 {
@@ -73,6 +75,7 @@ fn read_line(text: &[u8], at: usize, memory: &mut [u8], expected: &mut [u8]) -> 
 }
 
 // The verdict on a line, by way of two scratch memories.
+#[tactic(auto, unfolding(crate::specs::Verdicts::line_verdict, crate::specs::Verdicts::verdict_on))]
 pub(crate) fn replay_line(text: &[u8], at: usize, memory: &mut [u8], expected: &mut [u8]) -> Verdict
     requires { (length memory.old ≡ 65536) × (length expected.old ≡ 65536) }
     ensures { result ≡ line_verdict text.now at }

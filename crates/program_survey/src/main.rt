@@ -94,10 +94,8 @@ fn survey_all(rt: HostRuntime) -> u8 {
         return survey_one(rt, from);
     }
     let mut status = 0;
-    let mut index = from;
-    while index < count {
+    for index in from..count {
         status = first_of(status, survey_one(rt, index));
-        index += 1;
     }
     status
 }

@@ -1,0 +1,15 @@
+-- The loop's invariant: the whole run is what was made and the run of what is left from here; a failure stays.
+use Rattle.std.proofs.Common.{◌≤◌, ◌-◌, ◌≡◌, length}
+use Rattle.manual.specs.Micro.{exec}
+use Rattle.manual.specs.Interrupts.{idle}
+use Rattle.manual.specs.Stepping.{long_run}
+use Rattle.manual_parts.specs.Lemmas.Parts.{Whole}
+use Rattle.console.specs.Failing.{FailureStays}
+use Rattle.console_showing.proofs.lines.show_on.Given as goal
+
+abbrev pub invariant-loop-made : goal.invariant-loop-made
+invariant-loop-made l =
+    (l.made ≤ l.count) × (length l.image ≡ length l.initial.image) × Whole (exec (long_run (length l.initial.image) l.count idle l.initial.machine) l.initial.image) l.made (length l.image) (l.count - l.made) l.machine l.image × FailureStays l.initial.failed l.failed
+
+abbrev pub decreases-loop-made : goal.decreases-loop-made
+decreases-loop-made l = l.count - l.made

@@ -1,0 +1,9 @@
+-- The run refuses an image of another length by itself.
+use Rattle.std.proofs.Common.{◌∙◌}
+use Rattle.manual.proofs.Lemmas.StepLaws.{long_short}
+use Rattle.image_run.specs.Lemmas.Report.{started}
+use Rattle.console_showing.proofs.lines.show_run.Goals as goal
+
+pub returns-clause-gives : goal.returns-clause-gives
+returns-clause-gives c = λ z.
+    started _ _ (λ s other. long_short _ _ _ s _ other) ∙ rw c.start_image-machine.ensures at (c.show_on.ensures.gives z)

@@ -1,0 +1,14 @@
+-- The loop's invariant: the whole run is what was made and the run of what is left from here.
+use Rattle.std.proofs.Common.{◌≤◌, ◌-◌, ◌≡◌, length}
+use Rattle.manual.specs.Micro.{exec}
+use Rattle.manual.specs.Interrupts.{idle}
+use Rattle.manual.specs.Stepping.{long_run}
+use Rattle.manual_parts.specs.Lemmas.Parts.{Whole}
+use Rattle.program_go.proofs.running.run_on.Given as goal
+
+abbrev pub invariant-loop-made : goal.invariant-loop-made
+invariant-loop-made l =
+    (l.made ≤ l.steps) × (length l.image ≡ length l.initial.image) × Whole (exec (long_run (length l.initial.image) l.steps idle l.initial.machine) l.initial.image) l.made (length l.image) (l.steps - l.made) l.machine l.image
+
+abbrev pub decreases-loop-made : goal.decreases-loop-made
+decreases-loop-made l = l.steps - l.made
