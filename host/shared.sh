@@ -18,6 +18,8 @@ for argument in "$@"; do
     esac
 done
 cd "$(dirname "$0")/.." || exit 2
+# shellcheck source=tools/sources.sh
+. tools/sources.sh
 
 # A program for another machine takes that machine's C compiler, which links too, and an emulator to run it.
 cross='' emulator='' compiler=cc
@@ -126,7 +128,7 @@ need_rt() {
 
 # renew ARCHIVE COMMAND: has it proved and built anew where it is missing or older than a source.
 renew() {
-    if [ ! -f "$1" ] || [ -n "$(find crates crates.txt -newer "$1" | head -n 1)" ]; then
+    if [ -n "$(newer_than "$1")" ]; then
         need_rt
         echo "host/$name: $2" >&2
         # run takes the same lock, so that no two prove in one target/ at once. The command is split into its words.
@@ -145,7 +147,7 @@ every_archived() {
     sed -n 's/^[a-z]*  *\([a-z0-9_]*\) .*/\1/p' host/saxundeer/archives.txt
 }
 
-# archive_of CRATE: where its archive for the machine stands. rt itself writes the ones for x86-64.
+# archive_of CRATE: where its archive for the machine stands. tools/build writes the ones for x86-64 and Arm.
 archive_of() {
     case $machine in
     x86_64) echo "target/staticlib/lib$1.a" ;;
@@ -163,7 +165,7 @@ find_archive() {
         found=$(dirname "$given")/lib$member.a
     else
         found=$(archive_of "$member")
-        command="rt staticlib $member"
+        command="tools/build $member"
         [ "$machine" = x86_64 ] || command="host/native-archive $member $machine"
         renew "$found" "$command"
     fi

@@ -1,7 +1,7 @@
 /* bell RINGS: a program waits for the door bell, which comes in on IRQ, and counts how often it rang; the power watch comes
  * in on NMI and ends it. Prints the count; the exit status is 0 where the program ended where it should.
  *
- *     rt staticlib mos6502
+ *     tools/build mos6502
  *     cc -I host/include host/examples/bell.c target/staticlib/libmos6502.a -o target/bell
  *     target/bell 3
  */

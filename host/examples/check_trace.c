@@ -1,7 +1,7 @@
 /* check_trace IMAGE LOG: checks a log against an image, and says which line is the first bad one. The exit status is the
  * answer, 2 for wrong usage.
  *
- *     rt staticlib mos6502_traces
+ *     tools/build mos6502_traces
  *     cc -I host/include host/examples/check_trace.c target/staticlib/libmos6502_traces.a -o target/check_trace
  *     target/check_trace crates/program_trace/stdin crates/program_trace/stdout
  */

@@ -2,9 +2,9 @@
  * before each the addresses that it will read and, after a colon, those that it will store to. The exit status is the answer of
  * the last step: 0 where all were made.
  *
- *     rt staticlib mos6502
- *     rt staticlib mos6502_step
- *     rt staticlib mos6502_footprint
+ *     tools/build mos6502
+ *     tools/build mos6502_step
+ *     tools/build mos6502_footprint
  *     cc -I host/include host/examples/footprints.c target/staticlib/libmos6502_step.a target/staticlib/libmos6502.a target/staticlib/libmos6502_footprint.a -o target/footprints
  *     target/footprints 4 crates/program_sealed/data/letter.img
  */

@@ -3,7 +3,7 @@
  * the sealed address that it would have read. FFFC and FFFD, where the run finds its start, cannot be sealed. The exit status is the
  * answer, 64 for wrong usage.
  *
- *     rt staticlib mos6502_guard
+ *     tools/build mos6502_guard
  *     cc -I host/include host/examples/guard_image.c target/staticlib/libmos6502_guard.a -o target/guard_image
  *     target/guard_image 0400 04FF 2000 crates/program_sealed/data/letter.img
  */

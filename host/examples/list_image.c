@@ -1,7 +1,7 @@
 /* list_image FIRST LAST IMAGE: prints a listing of an image from a first to a last address, four hexadecimal digits each. The exit
  * status is the answer: 0 where it is printed.
  *
- *     rt staticlib mos6502_listing
+ *     tools/build mos6502_listing
  *     cc -I host/include host/examples/list_image.c target/staticlib/libmos6502_listing.a -o target/list_image
  *     target/list_image 0200 0202 crates/program_report/stdin
  */

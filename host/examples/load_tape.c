@@ -1,6 +1,6 @@
 /* load_tape TAPE: reads a paper tape onto zeros and says what was found. The exit status is the answer, 2 for wrong usage.
  *
- *     rt staticlib mos6502_tapes
+ *     tools/build mos6502_tapes
  *     cc -I host/include host/examples/load_tape.c target/staticlib/libmos6502_tapes.a -o target/load_tape
  *     target/load_tape crates/program_load/stdin
  */

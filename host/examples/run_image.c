@@ -1,7 +1,7 @@
 /* run_image STOP LIMIT IMAGE: runs an image as the program report does, but for LIMIT steps, any number of them, and prints
  * its line. The exit status is that of `./run report --stop STOP`: 0 only if it ended at STOP.
  *
- *     rt staticlib mos6502
+ *     tools/build mos6502
  *     cc -I host/include host/examples/run_image.c target/staticlib/libmos6502.a -o target/run_image
  *     target/run_image 0202 50000000 crates/program_report/stdin
  */

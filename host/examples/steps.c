@@ -2,8 +2,8 @@
  * for each the counter before it, the cycles that it took, and the first address on the bus. The exit status is
  * the answer of the last step: 0 where all were made.
  *
- *     rt staticlib mos6502
- *     rt staticlib mos6502_step
+ *     tools/build mos6502
+ *     tools/build mos6502_step
  *     cc -I host/include host/examples/steps.c target/staticlib/libmos6502_step.a target/staticlib/libmos6502.a -o target/steps
  *     target/steps 20 crates/program_report/data/for-ever.img
  */

@@ -1,6 +1,6 @@
-/* The runs of the proved core, for a host in C or C++: link target/staticlib/libmos6502.a, which `rt staticlib mos6502` writes for
- * x86-64. For Arm `host/native-archive mos6502 aarch64` writes target/staticlib/aarch64/libmos6502.a, from the same bitcode. The
- * other archives are built likewise. One step is in mos6502_step.h.
+/* The runs of the proved core, for a host in C or C++: link target/staticlib/libmos6502.a, which `tools/build mos6502` writes for
+ * x86-64. For Arm `host/native-archive mos6502 aarch64` writes target/staticlib/aarch64/libmos6502.a. The other archives are built
+ * likewise. One step is in mos6502_step.h.
  *
  * The registers are a number, and so are the levels of the lines: mos6502_numbers.h says which. The answers are those of
  * mos6502_answers.h. What holds of every call of the functions that make steps is stated in

@@ -14,7 +14,7 @@
 #endif
 
 /* Declares the function that only an archive of the header's version has, and has the program refer to it: with another archive it
- * does not link, and the linker prints that function's name, which says what to do. Nobody has to call it. With `retain` the
+ * does not link, and the linker prints that function's name; what to run is tools/build. Nobody has to call it. With `retain` the
  * linker's --gc-sections keeps the reference too; a compiler without that word (gcc before 11, clang before 13) leaves it to be
  * dropped there. */
 #ifdef __has_attribute

@@ -1,5 +1,5 @@
 /* What a step will read and store to, before it is made, proved, for a host in C or C++: link
- * target/staticlib/libmos6502_footprint.a, which `rt staticlib mos6502_footprint` writes for x86-64 (for Arm: mos6502.h). It stands
+ * target/staticlib/libmos6502_footprint.a, which `tools/build mos6502_footprint` writes for x86-64 (for Arm: mos6502.h). It stands
  * by itself, and shares no symbol with the other archives.
  *
  * The registers and the levels of the lines are the numbers of mos6502_numbers.h. The places and the `length` bytes of memory must

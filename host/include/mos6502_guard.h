@@ -1,5 +1,5 @@
 /* The guarded run, the extract and the run to an address, proved, for a host in C or C++: link target/staticlib/libmos6502_guard.a,
- * which `rt staticlib mos6502_guard` writes for x86-64 (for Arm: mos6502.h). It stands by itself, but for the C function memset,
+ * which `tools/build mos6502_guard` writes for x86-64 (for Arm: mos6502.h). It stands by itself, but for the C function memset,
  * and shares no symbol with the other archives.
  *
  * The registers and the levels of the lines are the numbers of mos6502_numbers.h. The numbers, the place and the `length` bytes of

@@ -1,5 +1,5 @@
 /* A listing of a stretch of memory, proved, for a host in C or C++: link target/staticlib/libmos6502_listing.a, which
- * `rt staticlib mos6502_listing` writes for x86-64 (for Arm: mos6502.h). It stands by itself, and shares no symbol with the other
+ * `tools/build mos6502_listing` writes for x86-64 (for Arm: mos6502.h). It stands by itself, and shares no symbol with the other
  * archives.
  *
  * The memory, the text and the number must not overlap, and nobody else may use them meanwhile.

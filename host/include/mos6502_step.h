@@ -1,4 +1,4 @@
-/* One step of the proved core, for a host in C or C++: link target/staticlib/libmos6502_step.a, which `rt staticlib mos6502_step`
+/* One step of the proved core, for a host in C or C++: link target/staticlib/libmos6502_step.a, which `tools/build mos6502_step`
  * writes for x86-64 (for Arm: mos6502.h). It stands by itself, and shares no symbol with the other archives.
  *
  * What holds of every call is stated in crates/mos6502/specs/Theorems/Correct.antt, and proved.

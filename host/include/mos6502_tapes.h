@@ -1,4 +1,4 @@
-/* Paper tapes and Intel HEX, proved, for a host in C or C++: link target/staticlib/libmos6502_tapes.a, which `rt staticlib
+/* Paper tapes and Intel HEX, proved, for a host in C or C++: link target/staticlib/libmos6502_tapes.a, which `tools/build
  * mos6502_tapes` writes for x86-64 (for Arm: mos6502.h).
  *
  * In each call the texts, the memory and the numbers must not overlap, and nobody else may use them meanwhile. Every number

@@ -1,5 +1,5 @@
 /* The check of a recorded trace, proved, for a host in C or C++: link target/staticlib/libmos6502_traces.a, which
- * `rt staticlib mos6502_traces` writes for x86-64 (for Arm: mos6502.h).
+ * `tools/build mos6502_traces` writes for x86-64 (for Arm: mos6502.h).
  *
  * The texts, the memories and the number must not overlap, and nobody else may use them meanwhile.
  */

@@ -2,7 +2,7 @@
 //! stand in target/staticlib of the repository, those for Arm in its folder aarch64. What is missing there, or is of another version
 //! than the package, is proved and built first. Or SAXUNDEER_ARCHIVE names the archive of the runs, and the others stand beside
 //! that; a relative path counts from the folder in which cargo is called. An archive that fits is taken as it is: to follow a
-//! change of the core, run `rt staticlib`.
+//! change of the core, run `tools/build`.
 
 use std::env;
 use std::fs::{self, OpenOptions};
@@ -187,7 +187,7 @@ impl<'a> Archive<'a> {
     /// The command that proves and builds it, from the root of the repository.
     fn command(&self, machine: &str) -> Vec<String> {
         let words = match machine {
-            "x86_64" => vec!["rt", "staticlib", self.library],
+            "x86_64" => vec!["tools/build", self.library],
             _ => vec!["host/native-archive", self.library, machine],
         };
         words.into_iter().map(String::from).collect()
