@@ -53,8 +53,13 @@ pub fn argument_is(rt: HostRuntime, index: usize, word: &[u8]) -> bool {
     }
 }
 
-pub(crate) fn is_standard_input(rt: HostRuntime, index: usize) -> bool {
-    argument_count(rt) <= index || argument_is(rt, index, b"-")
+// Whether an argument stands for standard input: it is `-`, or missing. One question is asked, however many words there are.
+pub fn is_standard_input(rt: HostRuntime, index: usize) -> bool {
+    let mut text = [0u8; LONGEST_WORD];
+    match rt.arg(index, &mut text) {
+        Ok(length) => &text[..length] == b"-".as_slice(),
+        Err(error) => matches!(error, FillError::NotPresent),
+    }
 }
 
 // An argument as an address: `next` is NOWHERE if it is none, or missing.

@@ -1,5 +1,5 @@
 // An input that an argument names. `-` is standard input, and so is an argument that is missing.
-ghost use Rattle.std.specs.Prelude.{◌≤◌, ◌≡◌, ◌≢◌, IfNone, length, take};
+ghost use Rattle.std.specs.Prelude.{◌≤◌, ◌≡◌, ◌≢◌, IfNone, IfOk, length, take};
 ghost use Rattle.std.specs.Io.{ReadsAtMost};
 ghost use Rattle.text_writing.specs.Counts.{IsPrefixLen};
 ghost use Rattle.console.specs.Failing.{FailureStays};
@@ -40,7 +40,9 @@ impl Input {
 }
 
 // The text of a name, as std takes it. A name that is no UTF-8 is refused in the system's own words.
-pub fn path_of(name: &[u8]) -> std::io::Result<&str> {
+pub fn path_of(name: &[u8]) -> std::io::Result<&str>
+    ensures { IfOk result (λ path. path.now ≡ name.now) }
+{
     match std::str::from_utf8(name) {
         Ok(path) => Ok(path),
         Err(_) => Err(std::io::Error::from_raw_os_error(NO_TEXT)),

@@ -12,7 +12,7 @@ mod progress; // progress.rt: how far a long piece of work is, at a terminal
 
 pub use arguments::{
     Asked, Names, address_argument, argument_count, argument_is, count_argument, image_and_after,
-    names_from, put_argument, steps_and_stop,
+    is_standard_input, names_from, put_argument, steps_and_stop,
 };
 pub use inputs::{Done, Input, close_input, open_input, path_of, read_input, read_two};
 pub use names::{put_input_name, put_name, put_printed, say_of};

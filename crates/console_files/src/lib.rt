@@ -8,8 +8,8 @@ ghost use Rattle.statuses.specs.Statuses.{first_of};
 ghost use Rattle.console.specs.Failing.{FailureStays};
 
 use console::{
-    Names, argument_count, argument_is, note_failure, path_of, put_argument, put_name, read_two,
-    say_of, say_why,
+    Names, is_standard_input, note_failure, path_of, put_argument, put_name, read_two, say_of,
+    say_why,
 };
 use names::{folder_end, put_beside, put_target};
 use statuses::{FAILED, first_of};
@@ -46,7 +46,7 @@ fn fail(rt: HostRuntime, shown: &[u8], error: Error, failed: &mut u8)
 
 // The input that an argument names, which is standard input if that is `-` or missing.
 fn known_input(rt: HostRuntime, index: usize) -> Known {
-    if argument_count(rt) <= index || argument_is(rt, index, b"-") {
+    if is_standard_input(rt, index) {
         return known_file(rt, b"/dev/stdin");
     }
     let mut name = [0u8; LONGEST_NAME];

@@ -14,8 +14,8 @@ use Rattle.listing.specs.Lemmas.Lengths.{name_length, operand_of_share, field_le
 
 module _ (m : List ℕ) where
   -- 14 characters for each byte of a line, and of a stretch
-  line_length : (at : ℕ) (d : Decoded) → length (text (line_of m at d)) ≤ per_byte * size d
-  line_length at d =
+  line_share : (at : ℕ) (d : Decoded) → length (text (line_of m at d)) ≤ per_byte * size d
+  line_share at d =
       simp length-append
       (omega (arith, field_length (bytes_from m at (size d)), bytes_length m at (size d), size_some d, name_length d, operand_of_share m at d))
 
@@ -25,7 +25,7 @@ module _ (m : List ℕ) where
       omega (
         arith,
         length-append (text (line_of m at Undefined)) (texts (unknown m (suc at) n)),
-        line_length at Undefined,
+        line_share at Undefined,
         unknown_length (suc at) n,
       )
 
@@ -48,7 +48,7 @@ module _ (m : List ℕ) where
         leb-true (size d) (suc n) b,
         size_some d,
         length-append (text (line_of m at d)) (texts rest),
-        line_length at d,
+        line_share at d,
         lines_length (suc at) n (size d - 1),
       ))
       (omega (arith, unknown_length at (suc n)))

@@ -18,7 +18,8 @@ use Rattle.instruction.specs.Opcodes.{decoded}
 use Rattle.instruction.specs.Modes.{length_of}
 use Rattle.opcode_table.specs.Names.{mnemonic, name_of}
 use Rattle.listing_operands.specs.Operands.{written, operand}
-use Rattle.listing.specs.Lines.{bytes_from, size, operand_of, line_of, byte_fields, fields, instruction_at, longest_instruction}
+use Rattle.laws.specs.Characters.{characters}
+use Rattle.listing.specs.Lines.{bytes_from, size, operand_of, line_of, byte_fields, fields, text, instruction_at, longest_instruction}
 use Rattle.listing.specs.Lemmas.Lines.{size_most}
 
 -- Every name has three letters.
@@ -104,3 +105,7 @@ module _ (m : List ℕ) where
 
   pub instruction_length : (at : ℕ) → length (instruction_at m at) ≤ longest_instruction
   instruction_length at = fields_length at (decoded (get_or m at 0))
+
+  -- and with its end
+  line_length : (at : ℕ) (d : Decoded) → length (text (line_of m at d)) ≤ longest_instruction + 1
+  line_length at d = omega (arith, length-append (fields (line_of m at d)) (characters "\n"), fields_length at d)
