@@ -3,7 +3,7 @@
 use Rattle.std.proofs.Common.{◌≡◌, ℕ, ◌+◌, ◌-◌, ◌*◌, ◌/◌, ◌%◌, ◌^◌, ◌<◌, ◌≤◌, T, ℤ, pos, negsuc, ◌+ℤ◌, ◌-ℤ◌, nat_abs, arith, to_z-of_z, w32, Fits, SFits, to_z, of_z}
 use lib.Signed.{non_neg}
 use Rattle.manual.specs.Words.{signed, around}
-use Rattle.manual.proofs.Lemmas.IntegerLemmas.{Difference, natural, sum, negated, of_byte, same}
+use Rattle.manual.specs.Lemmas.IntegerLemmas.{Difference, natural, sum, negated, of_byte, same}
 
 -- a number that is written to 32 bits and read again
 abbrev held : ℤ → ℤ

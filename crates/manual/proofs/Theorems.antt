@@ -1,4 +1,3 @@
-pub mod OneResult
 pub mod Accesses
 pub mod Reads
 pub mod FewReads
@@ -9,7 +8,6 @@ pub mod RunAnswers
 pub mod Lunch
 pub mod Spending
 pub mod Edges
-pub mod Within
 pub mod Ranges
 pub mod BinaryArithmetic
 pub mod Complement

@@ -15,3 +15,5 @@ pub mod Stepping
 pub mod ReadList
 pub mod StoreList
 pub mod Inner
+pub mod Lemmas
+pub mod Theorems

@@ -1,7 +1,7 @@
 -- The line is served.
 use Rattle.std.proofs.Common.{refl, ◌∙◌}
 use Rattle.manual.specs.Interrupts.{served}
-use Rattle.manual.proofs.Lemmas.Programs.{then}
+use Rattle.manual.specs.Lemmas.Programs.{then}
 use Rattle.cpu.specs.Inner.Turning.{serving}
 use Rattle.cpu.proofs.serve_line.Goals as goal
 

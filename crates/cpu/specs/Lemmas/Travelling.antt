@@ -11,7 +11,7 @@ use Rattle.manual.specs.declared.Reason.TheVariants.{Made, MemoryNotFull, NoCycl
 use Rattle.manual.specs.Micro.{done, exec, Gives}
 use Rattle.manual.specs.Outcomes.{machine_of, is_made, stepped, ended}
 use Rattle.manual.specs.Stepping.{run_while, step_full, run_full}
-use Rattle.manual.proofs.Lemmas.Programs.{exec_then, exec_bind}
+use Rattle.manual.specs.Lemmas.Programs.{exec_then, exec_bind}
 use Rattle.cpu.specs.declared.Travelled.{Travelled}
 use Rattle.cpu.specs.Inner.Travelling.{travelled, travelling}
 

@@ -14,7 +14,7 @@ use Rattle.manual.specs.Micro.{exec, Gives}
 use Rattle.manual.specs.Outcomes.{machine_of, is_made, stepped, ended}
 use Rattle.manual.specs.Interrupts.{served, due}
 use Rattle.manual.specs.Stepping.{highest_count, step_full, run_full}
-use Rattle.manual.proofs.Lemmas.Programs.{exec_bind, then}
+use Rattle.manual.specs.Lemmas.Programs.{exec_bind, then}
 use Rattle.manual.proofs.Lemmas.StepLaws.{due_none, step_late, step_serves, step_undefined, step_defined}
 use Rattle.manual.proofs.Theorems.Answers.{Way, late, serves, undefined, ready, way, not_quiet}
 use Rattle.manual.proofs.Theorems.RunAnswers.{Leads, Ends, all_made_lem, no_cycle_room_lem, not_an_opcode_lem, run_ends}

@@ -18,7 +18,7 @@ use Rattle.manual.specs.Interrupts.{due}
 use Rattle.manual.specs.Instructions.{perform}
 use Rattle.manual.specs.Stepping.{highest_count, made, step_full}
 use Rattle.manual.proofs.Lemmas.Extra.{extra_most}
-use Rattle.manual.proofs.Lemmas.Programs.{exec_bind}
+use Rattle.manual.specs.Lemmas.Programs.{exec_bind}
 use Rattle.manual.proofs.Lemmas.StepLaws.{opcode_of, step_defined, step_undefined}
 use Rattle.opcode_effects.specs.declared.Dispatched.{Dispatched}
 use Rattle.opcode_effects.specs.Inner.Performing.{ticks_of, dispatched}

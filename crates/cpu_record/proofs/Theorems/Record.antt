@@ -11,8 +11,8 @@ use Rattle.manual.specs.Micro.{stores, Gives}
 use Rattle.manual.specs.Outcomes.{number, is_made, stepped}
 use Rattle.manual.specs.Stepping.{step}
 use Rattle.manual.specs.ReadList.{listed_step}
-use Rattle.manual.proofs.Lemmas.Programs.{exec_then}
-use Rattle.manual.proofs.Theorems.OneResult.{one_result}
+use Rattle.manual.specs.Lemmas.Programs.{exec_then}
+use Rattle.manual.specs.Theorems.OneResult.{one_result}
 use Rattle.manual.proofs.Theorems.Sealed.{Differ, Unsealed, Kept, step_sealed}
 use Rattle.manual.proofs.Lemmas.StepLaws.{step_whole}
 use Rattle.manual.proofs.Theorems.Answers.{step_answers}

@@ -14,7 +14,7 @@ use Rattle.manual.specs.Outcomes.{is_made, ended}
 use Rattle.manual.specs.Stepping.{step_full, run_while, run_full}
 use Rattle.manual.specs.ReadList.{listed_step_full, listed_run_full}
 use Rattle.manual.specs.StoreList.{stored_by_step_full}
-use Rattle.manual.proofs.Lemmas.Programs.{◌∈◌, alike, exec_length, stores_bind}
+use Rattle.manual.specs.Lemmas.Programs.{◌∈◌, alike, exec_length, stores_bind}
 use Rattle.manual.proofs.Theorems.Reads.{step_full_reads}
 use Rattle.manual.proofs.Theorems.Stores.{step_full_stores}
 use Rattle.manual.proofs.Theorems.Sealed.{Differ, Unsealed, agree_set, stores_alike, sealed}

@@ -7,7 +7,7 @@ use Rattle.manual.specs.declared.Ended.{Ended}
 use Rattle.manual.specs.Micro.{stores, Gives}
 use Rattle.manual.specs.Stepping.{full_memory, long_run}
 use Rattle.manual.specs.ReadList.{listed_long_run}
-use Rattle.manual.proofs.Lemmas.Programs.{◌∈◌, exec_length}
+use Rattle.manual.specs.Lemmas.Programs.{◌∈◌, exec_length}
 use Rattle.manual.proofs.Theorems.Sealed.{Differ, Unsealed, long_run_sealed}
 use Rattle.guard_maps.specs.declared.Touch.{Touch}
 use Rattle.guard_maps.specs.Maps.{nowhere}

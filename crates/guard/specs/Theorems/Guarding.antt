@@ -11,7 +11,7 @@ use Rattle.manual.specs.Micro.{accesses, reads, stores, Gives}
 use Rattle.manual.specs.Outcomes.{ended}
 use Rattle.manual.specs.Stepping.{full_memory, step_full, step, run_full, long_run}
 use Rattle.manual.specs.ReadList.{listed_long_run}
-use Rattle.manual.proofs.Lemmas.Programs.{◌∈◌}
+use Rattle.manual.specs.Lemmas.Programs.{◌∈◌}
 use Rattle.manual.proofs.Lemmas.StepLaws.{long_whole}
 use Rattle.manual.proofs.Theorems.Reads.{step_full_reads}
 use Rattle.manual.proofs.Theorems.Stores.{step_full_stores}

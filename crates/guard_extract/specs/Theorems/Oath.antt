@@ -11,7 +11,7 @@ use Rattle.manual.specs.Micro.{reads, stores, Gives}
 use Rattle.manual.specs.Outcomes.{ended}
 use Rattle.manual.specs.Interrupts.{idle}
 use Rattle.manual.specs.Stepping.{full_memory, step}
-use Rattle.manual.proofs.Lemmas.Programs.{◌∈◌}
+use Rattle.manual.specs.Lemmas.Programs.{◌∈◌}
 use Rattle.manual.proofs.Theorems.Sealed.{Differ, Unsealed, Kept, sealed}
 use Rattle.statuses.specs.declared.Goal.{Goal}
 use Rattle.statuses.specs.Statuses.{reached}

@@ -18,7 +18,7 @@ use Rattle.manual.specs.Instructions.{applied, perform}
 use Rattle.manual.specs.Stepping.{run_while, act, attend, step_full, run_full, run, long_run, full_memory}
 use Rattle.manual.specs.Inner.Laying.{memory}
 use Rattle.registers.specs.InRange.{InRange}
-use Rattle.manual.proofs.Theorems.Within.{Bytes}
+use Rattle.manual.specs.Theorems.Within.{Bytes}
 use Rattle.manual.proofs.Theorems.Ranges.{run_ranges}
 use Rattle.manual.proofs.Lemmas.StepLaws.{run_whole, long_whole}
 use Rattle.manual.proofs.Theorems.Answers.{NoOpcode}

@@ -69,6 +69,10 @@ distinct zero (r ∷ rs) = false
 distinct (suc n) [] = false
 distinct (suc n) (r ∷ rs) = ltb r.opcode 256 && not (is_defined (find r.opcode rs)) && distinct n rs
 
+tested : T (every_row passes rows && distinct 151 rows)
+unfolding rows
+tested = tt
+
 -- ---- what it shows
 
 -- of two tests that differ at one number alone, the one that passes there counts one more
@@ -104,6 +108,7 @@ defined_by (suc n) (r ∷ rs) t =
     (ltb→lt r.opcode 256 byte)
     ∙ ap suc (defined_by n rs later)
 
+-- Of the test and not of `tested`: an edit of the table is refused there and here, and leaves nothing unread.
 by_test : T (every_row passes rows && distinct 151 rows) → TableRules
 unfolding decoded
 by_test tested = record {

@@ -13,7 +13,7 @@ use Rattle.instruction.specs.declared.Decoded.TheVariants.{Undefined}
 use Rattle.instruction.specs.Opcodes.{rows, decoded}
 use Rattle.manual.specs.Words.{address_of, signed, around}
 use Rattle.manual.specs.Branching.{branch_target}
-use Rattle.manual.proofs.Lemmas.Programs.{either as by_test}
+use Rattle.manual.specs.Lemmas.Programs.{either as by_test}
 use Rattle.laws.specs.Characters.{characters}
 use Rattle.text_writing.specs.Numerals.{digit}
 use Rattle.opcode_table.specs.Names.{mnemonic}

@@ -17,7 +17,7 @@ use Rattle.manual.specs.Addressing.{operand, target}
 use Rattle.manual.specs.Stack.{push, pull, push_address, pull_address}
 use Rattle.manual.specs.Interrupts.{irq_vector, enter}
 use Rattle.manual.specs.Instructions.{modify, perform}
-use Rattle.manual.proofs.Lemmas.Programs.{exec_bind, either}
+use Rattle.manual.specs.Lemmas.Programs.{exec_bind, either}
 
 branched_extra : (t : Bool) (a : Target) (r : Registers) → (branched t a r).extra ≤ 2
 unfolding branched

@@ -23,7 +23,7 @@ use Rattle.manual.specs.Shifting.{modified, modified_flags}
 use Rattle.manual.specs.Interrupts.{irq_vector, enter, served}
 use Rattle.manual.specs.Instructions.{applied, stored, advanced, modify, perform}
 use Rattle.manual.specs.Outcomes.{leaves_at, leaves}
-use Rattle.manual.proofs.Lemmas.Programs.{then}
+use Rattle.manual.specs.Lemmas.Programs.{then}
 
 -- ---- the stack
 

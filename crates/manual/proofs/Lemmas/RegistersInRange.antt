@@ -27,7 +27,7 @@ use Rattle.manual.specs.Addressing.{operand}
 use Rattle.manual.specs.Internal.{internal}
 use Rattle.manual.specs.Shifting.{modified, modified_flags}
 use Rattle.manual.specs.Instructions.{sum, difference, with_output, applied, stored, advanced}
-use Rattle.manual.proofs.Lemmas.Programs.{either}
+use Rattle.manual.specs.Lemmas.Programs.{either}
 use Rattle.manual.proofs.Theorems.DecimalDigits.{sum_by_digits, difference_by_digits}
 
 module _ (r : Registers) (h : InRange r) where

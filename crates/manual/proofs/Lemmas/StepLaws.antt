@@ -21,7 +21,7 @@ use Rattle.manual.specs.Outcomes.{is_made, refused, ended}
 use Rattle.manual.specs.Interrupts.{nmi_vector, irq_vector, serving_cycles, served, falls, calls, due}
 use Rattle.manual.specs.Instructions.{perform}
 use Rattle.manual.specs.Stepping.{full_memory, highest_count, highest_bound, made, act, attend, step_full, step, run_while, run_full, run, long_run}
-use Rattle.manual.proofs.Lemmas.Programs.{exec_then, then}
+use Rattle.manual.specs.Lemmas.Programs.{exec_then, then}
 
 -- the byte at the counter
 abbrev pub opcode_of : Machine → List ℕ → ℕ

@@ -27,7 +27,7 @@ use Rattle.manual.specs.Interrupts.{enter, served, due}
 use Rattle.manual.specs.Instructions.{modify, perform}
 use Rattle.manual.specs.Stepping.{full_memory, highest_count, act, attend, step_full, step}
 use Rattle.manual.specs.ReadList.{addressed, operands, pointers, reached, listed, listed_due}
-use Rattle.manual.proofs.Lemmas.Programs.{accesses_bind, reads_append, stores_append, alike}
+use Rattle.manual.specs.Lemmas.Programs.{accesses_bind, reads_append, stores_append, alike}
 use Rattle.manual.specs.StoreList.{aim, three_pushed, stored_to}
 
 -- which of the two come first

@@ -9,7 +9,7 @@ use Rattle.registers.specs.State.{set_nz, set_c, set_status, flags}
 use Rattle.manual.specs.Arithmetic.{sum_overflows, difference_overflows, binary_sum, binary_difference}
 use Rattle.manual.specs.Flags.{shown}
 use Rattle.manual.specs.Branching.{compared}
-use Rattle.manual.proofs.Lemmas.IntegerLemmas.{by_test, flag_iff, bit_not, bit_test, Difference, natural, sum, negated, of_byte, signed_byte}
+use Rattle.manual.specs.Lemmas.IntegerLemmas.{by_test, flag_iff, bit_not, bit_test, Difference, natural, sum, negated, of_byte, signed_byte}
 
 -- a signed number that a byte has: minus 128 to 127
 pub record FitsByte (z : ℤ) : Type 0 where

@@ -12,7 +12,7 @@ use Rattle.manual.specs.Words.{joined}
 use Rattle.manual.specs.Addressing.{operand}
 use Rattle.manual.specs.Stack.{push, push_address}
 use Rattle.manual.specs.Instructions.{perform}
-use Rattle.manual.proofs.Lemmas.Programs.{untouched}
+use Rattle.manual.specs.Lemmas.Programs.{untouched}
 
 module _ (mode : AddressingMode) (r : Registers) (m : List ℕ) where
   -- the two places of the return address

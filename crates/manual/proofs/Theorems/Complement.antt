@@ -5,7 +5,7 @@ use native.Mathlib.Omega.{arith}
 use Rattle.registers.specs.StatusByte.{bit}
 use Rattle.manual.specs.Words.{low_byte, signed, outside}
 use Rattle.manual.specs.Arithmetic.{sum_overflows, difference_overflows, binary_sum, binary_difference}
-use Rattle.manual.proofs.Lemmas.IntegerLemmas.{by_test, bit_not, natural, sum, negated, of_byte, same}
+use Rattle.manual.specs.Lemmas.IntegerLemmas.{by_test, bit_not, natural, sum, negated, of_byte, same}
 
 -- As a signed number the complement of a byte is one less than its negative.
 pub signed_complement : (m : ℕ) → m < 256 → signed (255 - m) ≡ neg_ℤ (pos 1) -ℤ signed m

@@ -7,7 +7,7 @@ use Rattle.registers.specs.StatusByte.{bit}
 use Rattle.manual.specs.declared.ArithmeticOutput.{ArithmeticOutput}
 use Rattle.manual.specs.Arithmetic.{sum_overflows, difference_overflows}
 use Rattle.manual.specs.Decimal.{is_decimal, value_of, digits_of, manual_sum, manual_difference, sum_digit, difference_digit, two_digits, rust_sum, rust_difference, with_overflow, decimal_sum, decimal_difference}
-use Rattle.manual.proofs.Lemmas.IntegerLemmas.{by_test, bit_not}
+use Rattle.manual.specs.Lemmas.IntegerLemmas.{by_test, bit_not}
 
 -- a number whose two digits are 0 to 9
 pub record Decimal (b : ℕ) : Type 0 where

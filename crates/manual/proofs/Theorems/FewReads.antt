@@ -20,7 +20,7 @@ use Rattle.manual.specs.Stepping.{full_memory, highest_count, step}
 use Rattle.manual.specs.ReadList.{addressed, operands, pointers, reached, listed, listed_entry, listed_due}
 use Rattle.manual.proofs.Theorems.Accesses.{is, suits, entry_suits}
 use Rattle.manual.proofs.Theorems.Reads.{step_reads}
-use Rattle.manual.proofs.Lemmas.Programs.{either}
+use Rattle.manual.specs.Lemmas.Programs.{either}
 
 -- at most so many
 abbrev pub Few : ℕ → List ℕ → Type 0

@@ -32,12 +32,12 @@ use Rattle.manual.specs.Interrupts.{enter, due}
 use Rattle.manual.specs.Instructions.{advanced, modify, perform}
 use Rattle.manual.specs.Stepping.{full_memory, highest_count, step_full, step}
 use Rattle.manual.specs.ReadList.{addressed}
-use Rattle.manual.proofs.Lemmas.Programs.{exec_bind}
+use Rattle.manual.specs.Lemmas.Programs.{exec_bind}
 use Rattle.manual.proofs.Lemmas.StepLaws.{opcode_of, step_short, step_whole, step_late, step_serves, step_undefined, step_defined}
 use Rattle.manual.proofs.Theorems.Answers.{Served, Way, late, serves, undefined, ready, way, not_quiet}
 use Rattle.manual.proofs.Theorems.RunAnswers.{same}
 use Rattle.registers.specs.InRange.{InRange}
-use Rattle.manual.proofs.Theorems.Within.{Bytes}
+use Rattle.manual.specs.Theorems.Within.{Bytes}
 
 -- What is said of a target that has an address.
 pub record PutOut (t : Target) : Type 0 where

@@ -11,7 +11,7 @@ use Rattle.manual.specs.declared.Reason.TheVariants.{Made, MemoryNotFull}
 use Rattle.manual.specs.Micro.{Micro, done, exec, Gives}
 use Rattle.manual.specs.Outcomes.{is_made, ended}
 use Rattle.manual.specs.Stepping.{full_memory, highest_bound, step_full, run_while, run_full, run, long_run}
-use Rattle.manual.proofs.Lemmas.Programs.{exec_bind, exec_length}
+use Rattle.manual.specs.Lemmas.Programs.{exec_bind, exec_length}
 use Rattle.manual.proofs.Lemmas.StepLaws.{run_short, run_whole, long_short, long_whole}
 use Rattle.manual.proofs.Theorems.RunAnswers.{Ends, all_made_lem, no_cycle_room_lem, not_an_opcode_lem, run_after_lem, ends_run, run_ends, RunTable, ran, memory_not_full_lem, bound_too_high_lem, run_answers}
 

@@ -35,10 +35,10 @@ use Rattle.manual.specs.declared.Ended.{Ended}
 use Rattle.manual.specs.declared.Reason.{Reason}
 use Rattle.manual.specs.Outcomes.{is_made, ended}
 use Rattle.manual.specs.Stepping.{full_memory, highest_count, highest_bound, act, attend, step_full, step, run_while, on_full, bounded, run_full, run, long_run, spend_full, run_cycles}
-use Rattle.manual.proofs.Theorems.Within.{Within, Bytes, InMemory, within_exec, within_bind, within_weaken, within_memory}
+use Rattle.manual.specs.Theorems.Within.{Within, Bytes, InMemory, within_exec, within_bind, within_weaken, within_memory}
 use Rattle.registers.specs.InRange.{InRange}
 use Rattle.manual.proofs.Lemmas.RegistersInRange.{in_set_a, in_set_s, in_set_pc, in_set_status, in_flags, in_advanced, in_load_a, in_applied, in_stored, in_modified, in_modified_flags, in_internal, in_around}
-use Rattle.manual.proofs.Lemmas.Programs.{either}
+use Rattle.manual.specs.Lemmas.Programs.{either}
 use Rattle.manual.proofs.Theorems.Answers.{not_quiet}
 
 abbrev Aimed : Target → Type 0

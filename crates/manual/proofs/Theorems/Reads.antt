@@ -16,7 +16,7 @@ use Rattle.manual.specs.Outcomes.{is_made}
 use Rattle.manual.specs.Interrupts.{due}
 use Rattle.manual.specs.Stepping.{full_memory, highest_count, highest_bound, act, attend, step_full, step, run_while, on_full, bounded, run_full, run, long_run, spend_full, run_cycles}
 use Rattle.manual.specs.ReadList.{listed, listed_entry, listed_due, listed_step_full, listed_step, listed_run_while, listed_on_full, listed_bounded, listed_run, listed_long_run, listed_run_cycles}
-use Rattle.manual.proofs.Lemmas.Programs.{reads_bind, alike}
+use Rattle.manual.specs.Lemmas.Programs.{reads_bind, alike}
 use Rattle.manual.specs.StoreList.{stored_to, three_pushed}
 use Rattle.manual.proofs.Theorems.Accesses.{order_of, stores_first, suits, entry_suits, act_accesses, attend_accesses, reads_in_order}
 

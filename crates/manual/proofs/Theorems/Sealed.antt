@@ -16,7 +16,7 @@ use Rattle.manual.specs.declared.Stepped.{Stepped}
 use Rattle.manual.specs.declared.Ended.{Ended}
 use Rattle.manual.specs.Stepping.{step, run, long_run}
 use Rattle.manual.specs.ReadList.{listed_step, listed_run, listed_long_run}
-use Rattle.manual.proofs.Lemmas.Programs.{◌∈◌, untouched}
+use Rattle.manual.specs.Lemmas.Programs.{◌∈◌, untouched}
 use Rattle.manual.proofs.Theorems.Reads.{step_reads, run_reads, long_run_reads}
 
 -- two full memories that differ only at sealed addresses

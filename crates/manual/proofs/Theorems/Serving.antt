@@ -26,7 +26,7 @@ use Rattle.manual.specs.Stack.{push, pull, push_address, pull_address}
 use Rattle.manual.specs.Interrupts.{enter, served, idle, falls, calls, due}
 use Rattle.manual.specs.Instructions.{perform}
 use Rattle.manual.specs.Stepping.{highest_count, act, attend, step_full}
-use Rattle.manual.proofs.Lemmas.Programs.{exec_bind}
+use Rattle.manual.specs.Lemmas.Programs.{exec_bind}
 use Rattle.manual.proofs.Lemmas.StepLaws.{second_not, due_none, step_late, step_serves, step_undefined, step_defined}
 use Rattle.manual.proofs.Theorems.Answers.{Served, Way, late, serves, undefined, ready, way}
 use Rattle.manual.proofs.Theorems.RunAnswers.{Leads}

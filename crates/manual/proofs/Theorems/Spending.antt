@@ -16,7 +16,7 @@ use Rattle.manual.specs.Micro.{exec, accesses, reads, stores, Gives}
 use Rattle.manual.specs.Outcomes.{is_made, refused, ended}
 use Rattle.manual.specs.Stepping.{full_memory, highest_bound, step_full, run_while, run, spend_full, run_cycles}
 use Rattle.manual.specs.ReadList.{listed_run_cycles}
-use Rattle.manual.proofs.Lemmas.Programs.{either}
+use Rattle.manual.specs.Lemmas.Programs.{either}
 use Rattle.manual.proofs.Lemmas.StepLaws.{opcode_of, step_late, step_serves, step_undefined, step_defined, run_short, while_over, while_more, while_stop}
 use Rattle.manual.proofs.Theorems.Answers.{NoRoom, NoOpcode, Way, late, serves, undefined, ready, way}
 use Rattle.manual.proofs.Theorems.RunAnswers.{Leads, Ends, all_made_lem, no_cycle_room_lem as stopped-late, not_an_opcode_lem as stopped-undefined, Allowed, ran as run_Ran, run_answers, same}

@@ -18,7 +18,7 @@ use Rattle.manual.specs.Micro.{Micro, accesses, stores_of, stores}
 use Rattle.manual.specs.Interrupts.{due}
 use Rattle.manual.specs.Stepping.{full_memory, highest_count, act, attend, step_full, step}
 use Rattle.manual.specs.ReadList.{listed, listed_due}
-use Rattle.manual.proofs.Lemmas.Programs.{alike, either}
+use Rattle.manual.specs.Lemmas.Programs.{alike, either}
 use Rattle.manual.specs.StoreList.{three_pushed, stored_to, stored_by_entry, stored_by_due, stored_by_step_full, stored_by_step}
 use Rattle.manual.proofs.Theorems.Accesses.{order_of, stores_first, suits, entry_suits, act_accesses, attend_accesses, stores_in_order}
 use Rattle.manual.proofs.Theorems.FewReads.{Few}

@@ -9,7 +9,7 @@ use Rattle.manual.specs.declared.Reason.TheVariants.{Made, MemoryNotFull, NoCycl
 use Rattle.manual.specs.Micro.{Micro, done, exec, ◌>>=◌, Gives}
 use Rattle.manual.specs.Outcomes.{number, is_made}
 use Rattle.manual.specs.Stepping.{full_memory, highest_bound}
-use Rattle.manual.proofs.Lemmas.Programs.{exec_bind}
+use Rattle.manual.specs.Lemmas.Programs.{exec_bind}
 use Rattle.manual.proofs.Lemmas.StepLaws.{was_refused}
 use Rattle.manual.proofs.Theorems.Answers.{NoRoom, NoOpcode}
 use Rattle.manual.proofs.Theorems.RunAnswers.{Leads, Ends, all_made_lem, no_cycle_room_lem, not_an_opcode_lem, RunTable, ran, memory_not_full_lem, bound_too_high_lem, LongTable, long_ran, long_not_full}

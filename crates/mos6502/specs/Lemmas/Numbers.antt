@@ -14,7 +14,7 @@ use Rattle.manual.specs.Micro.{exec, Gives}
 use Rattle.manual.specs.Outcomes.{number, is_made, stepped}
 use Rattle.manual.specs.Interrupts.{due}
 use Rattle.manual.specs.Stepping.{full_memory, highest_bound, step, run_full, run, long_run, spend_full, run_cycles}
-use Rattle.manual.proofs.Lemmas.Programs.{then, exec_bind}
+use Rattle.manual.specs.Lemmas.Programs.{then, exec_bind}
 use Rattle.manual.proofs.Lemmas.StepLaws.{step_short, step_whole, run_short, run_long, run_whole, long_short, long_whole}
 use Rattle.manual.proofs.Theorems.RunAnswers.{Ends, all_made_lem, no_cycle_room_lem, not_an_opcode_lem, run_ends}
 use Rattle.manual.proofs.Theorems.Spending.{cycles_short, cycles_long, cycles_whole}

@@ -17,7 +17,7 @@ use Rattle.manual.proofs.Theorems.Answers.{NoRoom, NoOpcode, Served, Ready}
 use Rattle.manual.proofs.Theorems.RunAnswers.{Leads}
 use Rattle.manual.proofs.Theorems.Spending.{Before}
 use Rattle.manual.proofs.Theorems.Sealed.{Differ, Unsealed, Kept}
-use Rattle.manual.proofs.Theorems.Within.{Bytes}
+use Rattle.manual.specs.Theorems.Within.{Bytes}
 use Rattle.mos6502_numbers.specs.Machines.{machine_from, lines_from}
 use Rattle.mos6502.specs.Numbers.{StepNumbers, RunNumbers}
 use Rattle.mos6502.specs.Calls.{StepCall, RunCall, LongRunCall, CyclesCall}

@@ -9,12 +9,12 @@ use Rattle.manual.specs.Micro.{Micro, exec}
 use Rattle.manual.specs.Outcomes.{number, is_made, refused}
 use Rattle.manual.specs.Stepping.{full_memory, highest_bound, step, run, long_run, run_cycles}
 use Rattle.manual.proofs.Lemmas.StepLaws.{not_made}
-use Rattle.manual.proofs.Theorems.OneResult.{one_result}
+use Rattle.manual.specs.Theorems.OneResult.{one_result}
 use Rattle.manual.proofs.Theorems.Answers.{NoRoom, NoOpcode, step_answers}
 use Rattle.manual.proofs.Theorems.RunAnswers.{Leads, run_answers, long_run_answers}
 use Rattle.manual.proofs.Theorems.Spending.{Before, run_cycles_answers, run_cycles_sealed, fewer_before}
 use Rattle.manual.proofs.Theorems.Sealed.{Differ, Kept, step_sealed, run_sealed_lem, long_run_sealed}
-use Rattle.manual.proofs.Theorems.Within.{Bytes}
+use Rattle.manual.specs.Theorems.Within.{Bytes}
 use Rattle.manual.proofs.Theorems.Ranges.{step_ranges, run_ranges, long_run_ranges, run_cycles_ranges}
 use Rattle.registers.specs.InRange.{InRange}
 use Rattle.mos6502_numbers.specs.Machines.{machine_from, lines_from}

@@ -3,7 +3,7 @@ use Rattle.std.specs.Prelude.{ℕ, ◌≡◌, refl, List}
 use Rattle.std.proofs.Common.{ap, ◌∙◌}
 use Rattle.manual.specs.declared.Ended.{Ended}
 use Rattle.manual.specs.Micro.{Gives}
-use Rattle.manual.proofs.Lemmas.Programs.{then}
+use Rattle.manual.specs.Lemmas.Programs.{then}
 use Rattle.mos6502_numbers.specs.Machines.{machine_from, lines_from}
 use Rattle.guard.specs.declared.Guarded.{Guarded}
 use Rattle.guard_stop.specs.Stop.{run_to}

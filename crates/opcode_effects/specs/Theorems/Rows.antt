@@ -15,7 +15,7 @@ use Rattle.manual.specs.declared.Target.{Target}
 use Rattle.manual.specs.Micro.{done, Gives}
 use Rattle.manual.specs.Addressing.{target}
 use Rattle.manual.specs.Instructions.{advanced, perform}
-use Rattle.manual.proofs.Lemmas.Programs.{exec_bind, then}
+use Rattle.manual.specs.Lemmas.Programs.{exec_bind, then}
 use Rattle.opcode_effects.specs.declared.Pending.{Pending}
 use Rattle.opcode_effects.specs.declared.Dispatched.{Dispatched}
 use Rattle.opcode_effects.specs.Inner.Performing.{read_entry, ticks_of, performed_from, performed, dispatched, finished_by, fetching}

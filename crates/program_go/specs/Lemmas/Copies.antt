@@ -4,7 +4,7 @@ use Rattle.std.proofs.Common.{ap, sym, ◌∙◌, take-take}
 use Rattle.manual.specs.declared.Ended.{Ended}
 use Rattle.manual.specs.Micro.{exec, Gives}
 use Rattle.manual.specs.Stepping.{full_memory}
-use Rattle.manual.proofs.Lemmas.Programs.{exec_length}
+use Rattle.manual.specs.Lemmas.Programs.{exec_length}
 use Rattle.manual.proofs.Lemmas.StepLaws.{long_short}
 use Rattle.statuses.specs.declared.Goal.{Goal}
 use Rattle.statuses.specs.Statuses.{end_status}

@@ -10,9 +10,9 @@ use Rattle.manual.specs.Micro.{exec, Gives}
 use Rattle.manual.specs.Words.{joined}
 use Rattle.manual.specs.Interrupts.{idle}
 use Rattle.manual.specs.Stepping.{full_memory, long_run}
-use Rattle.manual.proofs.Lemmas.Programs.{exec_length}
+use Rattle.manual.specs.Lemmas.Programs.{exec_length}
 use Rattle.manual.proofs.Lemmas.StepLaws.{long_short, long_whole}
-use Rattle.manual.proofs.Theorems.Within.{Bytes}
+use Rattle.manual.specs.Theorems.Within.{Bytes}
 use Rattle.manual.proofs.Theorems.RunAnswers.{Ends, all_made_lem, no_cycle_room_lem, not_an_opcode_lem, run_ends}
 use Rattle.manual.proofs.Theorems.Lunch.{added}
 use Rattle.text_reading.specs.Numbers.{nowhere}

@@ -3,7 +3,7 @@ use Rattle.std.specs.Prelude.{ℕ, ◌≡◌, List, length}
 use Rattle.std.proofs.Common.{ap, ◌∙◌}
 use Rattle.manual.specs.declared.Ended.{Ended}
 use Rattle.manual.specs.Micro.{Gives}
-use Rattle.manual.proofs.Theorems.OneResult.{one_result}
+use Rattle.manual.specs.Theorems.OneResult.{one_result}
 use Rattle.text_writing.specs.Written.{Wrote}
 use Rattle.text_writing.specs.Lemmas.Written.{one_text}
 use Rattle.program_report.specs.declared.image.Reported.{Reported}

@@ -12,9 +12,9 @@ use Rattle.manual.specs.Micro.{exec, Gives}
 use Rattle.manual.specs.Outcomes.{number, stepped}
 use Rattle.manual.specs.Interrupts.{idle}
 use Rattle.manual.specs.Stepping.{full_memory, highest_count, step_full, run}
-use Rattle.manual.proofs.Lemmas.Programs.{exec_length}
+use Rattle.manual.specs.Lemmas.Programs.{exec_length}
 use Rattle.manual.proofs.Lemmas.StepLaws.{step_whole}
-use Rattle.manual.proofs.Theorems.Within.{Bytes}
+use Rattle.manual.specs.Theorems.Within.{Bytes}
 use Rattle.manual.proofs.Theorems.Answers.{step_answers}
 use Rattle.manual.proofs.Theorems.RunAnswers.{Leads, all_made_lem, no_cycle_room_lem, not_an_opcode_lem, RunTable, ran, memory_not_full_lem, bound_too_high_lem, run_answers}
 use Rattle.manual.proofs.Theorems.Ranges.{StepInRange, step_ranges}

@@ -7,7 +7,7 @@ use Rattle.manual.specs.declared.Machine.{Machine}
 use Rattle.manual.specs.declared.Stepped.{Stepped}
 use Rattle.manual.specs.Micro.{Micro, done, read, write, exec, accesses, stores, Gives}
 use Rattle.manual.specs.Stepping.{step}
-use Rattle.manual.proofs.Lemmas.Programs.{◌∈◌}
+use Rattle.manual.specs.Lemmas.Programs.{◌∈◌}
 use Rattle.manual.specs.StoreList.{stored_by_step}
 use Rattle.manual.proofs.Theorems.Stores.{step_stores, at_most_three_stores}
 use Rattle.footprint.specs.declared.places.Footprint.{Footprint}

@@ -8,7 +8,7 @@ use Rattle.manual.specs.Micro.{exec, Gives}
 use Rattle.manual.specs.Outcomes.{is_made, ended}
 use Rattle.manual.specs.Interrupts.{idle}
 use Rattle.manual.specs.Stepping.{run_while, full_memory, step_full, run_full}
-use Rattle.manual.proofs.Lemmas.Programs.{exec_then}
+use Rattle.manual.specs.Lemmas.Programs.{exec_then}
 use Rattle.manual.proofs.Lemmas.StepLaws.{step_late, step_serves, step_undefined, step_defined}
 use Rattle.manual.proofs.Theorems.Answers.{Way, late, serves, undefined, ready, way}
 use Rattle.listing.specs.Lines.{instruction_at}

@@ -11,9 +11,9 @@ use Rattle.manual.specs.Micro.{done, exec, Gives}
 use Rattle.manual.specs.Outcomes.{is_made, refused, ended}
 use Rattle.manual.specs.Interrupts.{idle}
 use Rattle.manual.specs.Stepping.{run_while, full_memory, step_full, run_full, long_run}
-use Rattle.manual.proofs.Lemmas.Programs.{exec_bind}
+use Rattle.manual.specs.Lemmas.Programs.{exec_bind}
 use Rattle.manual.proofs.Lemmas.StepLaws.{long_whole, step_late, step_undefined, was_refused}
-use Rattle.manual.proofs.Theorems.Within.{Bytes}
+use Rattle.manual.specs.Theorems.Within.{Bytes}
 use Rattle.manual.proofs.Theorems.RunAnswers.{Leads, Ends, all_made_lem, no_cycle_room_lem, not_an_opcode_lem, run_ends}
 use Rattle.trace_line.specs.Lines.{Spellable, line_text}
 use Rattle.trace_checking.specs.Checking.{checked_of, checked_trace}

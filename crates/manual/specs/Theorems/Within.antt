@@ -3,7 +3,7 @@
 use Rattle.std.specs.Prelude.{ℕ, zero, suc, ◌<◌, ◌≡◌, ◌⊎◌, List, [], ◌∷◌, get_or, set}
 use Rattle.std.proofs.Common.{inl, inr, ⊎_elim}
 use Rattle.manual.specs.Micro.{Micro, done, read, write, exec, accesses, reads, stores, ◌>>=◌}
-use Rattle.manual.proofs.Lemmas.Programs.{◌∈◌}
+use Rattle.manual.specs.Lemmas.Programs.{◌∈◌}
 
 abbrev pub Within : {A : Type 0} → (A → Type 0) → Micro A → Type 0
 Within Q (done a) = Q a
