@@ -1,6 +1,8 @@
 -- The answers by name: docs/RULES.md says when each is given. An exit status from 1 to 13 is one of them too; 14 and 15 are
 -- given to hosts alone.
 use Rattle.std.specs.Prelude.{ℕ}
+use Rattle.laws.specs.declared.answers.Refusal.{Refusal}
+use Rattle.laws.specs.declared.answers.Refusal.TheVariants.{MemoryNotFull, NoCycleRoom, NotAnOpcode, BoundTooHigh, MalformedRecord, WrongSum, PastTheEnd, NoEnd, FirstAboveLast, NoRoom, MalformedEntry, StrayEntry, WouldRead, WouldStore, NotThere}
 
 -- of every function: what was asked for is not refused; of a run: all its steps are made, or its cycles spent, and its program still runs;
 -- of a run to an address: the counter is at it
@@ -66,3 +68,21 @@ would_store = 14
 -- of a run to an address: all its steps are made, and the counter is not at it
 abbrev pub not_there : ℕ
 not_there = 15
+
+-- the number of a refusal
+abbrev pub answer_of : Refusal → ℕ
+answer_of MemoryNotFull = memory_not_full
+answer_of NoCycleRoom = no_cycle_room
+answer_of NotAnOpcode = not_an_opcode
+answer_of BoundTooHigh = bound_too_high
+answer_of MalformedRecord = malformed_record
+answer_of WrongSum = wrong_sum
+answer_of PastTheEnd = past_the_end
+answer_of NoEnd = no_end
+answer_of FirstAboveLast = first_above_last
+answer_of NoRoom = no_room
+answer_of MalformedEntry = malformed_entry
+answer_of StrayEntry = stray_entry
+answer_of WouldRead = would_read
+answer_of WouldStore = would_store
+answer_of NotThere = not_there

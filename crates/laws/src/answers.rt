@@ -1,5 +1,8 @@
 // The answers of all functions, by name: docs/RULES.md says when each is given. An exit status from 1 to 13 is one of them
-// too; 14 and 15 are given to hosts alone.
+// too; 14 and 15 are given to hosts alone. Between functions a refusal is a `Refusal`; the numbers are for C, for a line and for an
+// exit status.
+ghost use Rattle.std.specs.Prelude.{◌≡◌};
+ghost use Rattle.laws.specs.Answers.{answer_of};
 
 // Of every function: what was asked for is not refused. Of a run: all its steps are made, or its cycles spent, and its program
 // still runs. Of a run to an address: the counter is at it.
@@ -44,3 +47,48 @@ pub const WOULD_STORE: u8 = 14;
 
 // Of a run to an address: all its steps are made, and the counter is not at it.
 pub const NOT_THERE: u8 = 15;
+
+// Why something is refused: an answer that is not 0.
+#[derive(Clone, Copy, PartialEq, Eq)]
+pub enum Refusal {
+    MemoryNotFull,
+    NoCycleRoom,
+    NotAnOpcode,
+    BoundTooHigh,
+    MalformedRecord,
+    WrongSum,
+    PastTheEnd,
+    NoEnd,
+    FirstAboveLast,
+    NoRoom,
+    MalformedEntry,
+    StrayEntry,
+    WouldRead,
+    WouldStore,
+    NotThere,
+}
+
+impl From<Refusal> for u8 {
+    ghost from_gives = { λ refusal number. number ≡ answer_of refusal };
+
+    // Its number.
+    fn from(refusal: Refusal) -> u8 {
+        match refusal {
+            Refusal::MemoryNotFull => MEMORY_NOT_FULL,
+            Refusal::NoCycleRoom => NO_CYCLE_ROOM,
+            Refusal::NotAnOpcode => NOT_AN_OPCODE,
+            Refusal::BoundTooHigh => BOUND_TOO_HIGH,
+            Refusal::MalformedRecord => MALFORMED_RECORD,
+            Refusal::WrongSum => WRONG_SUM,
+            Refusal::PastTheEnd => PAST_THE_END,
+            Refusal::NoEnd => NO_END,
+            Refusal::FirstAboveLast => FIRST_ABOVE_LAST,
+            Refusal::NoRoom => NO_ROOM,
+            Refusal::MalformedEntry => MALFORMED_ENTRY,
+            Refusal::StrayEntry => STRAY_ENTRY,
+            Refusal::WouldRead => WOULD_READ,
+            Refusal::WouldStore => WOULD_STORE,
+            Refusal::NotThere => NOT_THERE,
+        }
+    }
+}
