@@ -3,7 +3,11 @@
 
 ghost use Rattle.std.specs.Prelude.{◌≡◌, ◌+◌, [], ◌∷◌, length, replicate, slice_index, slice_set};
 ghost use Rattle.manual.specs.Words.{low_byte, address_of, page, joined};
-ghost use Rattle.manual.specs.Stepping.{full_memory};
+
+use manual::FULL_MEMORY;
+
+// A whole memory. Where any bytes are lent, `as_mut_array::<FULL_MEMORY>` gives it of those that are as long.
+pub type Memory = [u8; FULL_MEMORY];
 
 // An address in the zero page is one byte, and reaches memory only through its page.
 #[derive(Clone, Copy)]
@@ -60,8 +64,7 @@ impl Address {
 }
 
 // The byte at an address.
-pub fn get_byte(memory: &[u8], at: Address) -> u8
-    requires { length memory.now ≡ full_memory }
+pub fn get_byte(memory: &Memory, at: Address) -> u8
     ensures { result ≡ slice_index memory.now at.0 }
 {
     let index = at.0 as usize;
@@ -80,8 +83,7 @@ pub fn peek(memory: &[u8], at: Address) -> u8
 }
 
 // Stores a byte at an address.
-pub fn set_byte(memory: &mut [u8], at: Address, byte: u8)
-    requires { length memory.old ≡ full_memory }
+pub fn set_byte(memory: &mut Memory, at: Address, byte: u8)
     ensures { memory.new ≡ slice_set memory.old at.0 byte }
 {
     let index = at.0 as usize;
@@ -89,8 +91,7 @@ pub fn set_byte(memory: &mut [u8], at: Address, byte: u8)
 }
 
 // Two bytes of an address, the low one first.
-pub fn read_address(memory: &[u8], first: Address, second: Address) -> [u8; 2]
-    requires { length memory.now ≡ full_memory }
+pub fn read_address(memory: &Memory, first: Address, second: Address) -> [u8; 2]
     ensures { result ≡ slice_index memory.now first.0 ∷ slice_index memory.now second.0 ∷ [] }
 {
     [get_byte(memory, first), get_byte(memory, second)]

@@ -1,8 +1,8 @@
 -- A text that is delivered into a lent buffer, with an answer and its length, or refused.
-use Rattle.std.specs.Prelude.{ℕ, cond, List, ltb, length}
+use Rattle.std.specs.Prelude.{ℕ, cond, List, ltb, length, Result, Ok, Err}
 use Rattle.std.proofs.lemmas.List.Edits.{sets}
-use Rattle.laws.specs.Answers.{not_refused, no_room}
-use Rattle.text_writing.specs.declared.Delivery.{Delivery}
+use Rattle.laws.specs.Answers.{not_refused, no_room, answer_of}
+use Rattle.laws.specs.declared.answers.Refusal.{Refusal}
 
 -- an answer, the length of the text, and the buffer with the text at its start
 pub record Delivered : Type 0 where
@@ -10,9 +10,14 @@ pub record Delivered : Type 0 where
   pub size : ℕ
   pub buffer : List ℕ
 
--- what the code answers, and the buffer that it leaves
-abbrev pub with_buffer : Delivery → List ℕ → Delivered
-with_buffer d buffer = record { answer = d.answer; size = d.size; buffer = buffer }
+-- the answer's number and the length of the text, of what the code answers
+abbrev pub numbers_of : Result ℕ Refusal → ℕ × ℕ
+numbers_of (Ok size) = (not_refused, size)
+numbers_of (Err refusal) = (answer_of refusal, 0)
+
+-- the same with the buffer that it leaves
+abbrev pub with_buffer : Result ℕ Refusal → List ℕ → Delivered
+with_buffer d buffer = record { answer = (numbers_of d).0; size = (numbers_of d).1; buffer = buffer }
 
 -- nothing is written, and the length is 0
 abbrev pub refused : ℕ → List ℕ → Delivered

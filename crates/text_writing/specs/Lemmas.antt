@@ -1,3 +1,4 @@
+pub mod Writing
 pub mod Written
 pub mod Texts
 pub mod Left

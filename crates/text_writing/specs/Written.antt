@@ -3,6 +3,7 @@
 -- fitted, and only at the largest `usize` does that place stop.
 use Rattle.std.specs.Prelude.{◌≡◌, List, ℕ, ◌+◌, ◌≤◌, min, length}
 use Rattle.std.proofs.lemmas.List.Edits.{sets}
+use Rattle.text_writing.specs.declared.Writer.{Writer}
 
 abbrev pub most : ℕ
 most = 18446744073709551615
@@ -12,3 +13,8 @@ pub record Wrote (l : List ℕ) (at : ℕ) (t l' : List ℕ) (next : ℕ) : Type
   pub fits : length l ≤ most
   pub bytes : l' ≡ sets l at t
   pub ends : next ≡ min (at + length t) most
+
+-- a writer goes on in the same buffer, after the text t
+pub record Writes (w : Writer) (t : List ℕ) (w' : Writer) : Type 0 where
+  pub same : w'.out.ghost_name ≡ w.out.ghost_name
+  pub wrote : Wrote w.out.now w.at t w'.out.now w'.at

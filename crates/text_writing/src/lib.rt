@@ -1,59 +1,22 @@
-// Text written into a lent buffer. Every writer is told where to begin and answers where its text ends; what does not
-// fit is dropped, and the answer is the same. So none needs room, and the length of a text is what it answers on any
-// buffer. If a text ends past the largest usize, the answer is that.
+// Text written into a lent buffer. What does not fit is dropped, and the place after the text is the same: so none needs room, and
+// the length of a text is the place after it on any buffer. If a text ends past the largest usize, that is the place.
 #![tactic(auto)]
 
 ghost use Rattle.std.specs.Prelude.{◌≡◌, [], ◌∷◌, ◌<◌};
-ghost use Rattle.text_writing.specs.Written.{Wrote};
+ghost use Rattle.text_writing.specs.Written.{Writes};
 ghost use Rattle.text_writing.specs.Numerals.{digit as Numerals·digit, hex2, hex4, decimal, spaced};
+ghost use Rattle.text_writing.specs.Delivered.{numbers_of};
 
-// The answer of a function that delivers a text into a lent buffer, and the length of the text at the buffer's start.
-#[derive(Clone, Copy)]
-pub struct Delivery {
-    pub answer: u8,
-    pub size: usize,
-}
+use laws::answers::{NOT_REFUSED, Refusal};
 
-impl Delivery {
-    // Nothing was written.
-    pub fn refused(answer: u8) -> Delivery
-        ensures { result ≡ record { answer = answer; size = 0 } }
-    {
-        Delivery {
-            answer: answer,
-            size: 0,
-        }
-    }
+// A buffer that is lent to be written into, and where the text goes on in it.
+#[derive(Drop)]
+pub struct Writer<'a> {
+    out: &'a mut [u8],
+    at: usize,
 }
 
 const DIGITS: [u8; 16] = *b"0123456789ABCDEF";
-
-// One character.
-pub fn put_byte(out: &mut [u8], at: usize, byte: u8) -> usize
-    ensures { Wrote out.old at (byte ∷ []) out.new result }
-{
-    if at < out.len() {
-        out[at] = byte;
-        at + 1
-    } else if at < 18446744073709551615 {
-        at + 1
-    } else {
-        at
-    }
-}
-
-// The characters of a text.
-pub fn put_text(out: &mut [u8], at: usize, text: &[u8]) -> usize
-    ensures { Wrote out.old at text.now out.new result }
-{
-    let mut next = at;
-    let mut i = 0;
-    while i < text.len() {
-        next = put_byte(out, next, text[i]);
-        i += 1;
-    }
-    next
-}
 
 // The character of a digit.
 fn digit(value: u8) -> u8
@@ -63,54 +26,108 @@ fn digit(value: u8) -> u8
     DIGITS[value as usize]
 }
 
-// A byte as two capital hexadecimal digits.
-pub fn put_hex2(out: &mut [u8], at: usize, byte: u8) -> usize
-    ensures { Wrote out.old at (hex2 byte) out.new result }
-{
-    let next = put_byte(out, at, digit(byte / 16));
-    put_byte(out, next, digit(byte % 16))
-}
+impl<'a> Writer<'a> {
+    // A writer that begins at a place of a buffer.
+    pub fn from(out: &'a mut [u8], at: usize) -> Writer<'a>
+        ensures same_reference { result.out.ghost_name ≡ out.entry.ghost_name }
+        ensures same_bytes { result.out.now ≡ out.old }
+        ensures begins { result.at ≡ at }
+    {
+        Writer { out, at }
+    }
 
-// A word as four.
-pub fn put_hex4(out: &mut [u8], at: usize, word: u16) -> usize
-    ensures { Wrote out.old at (hex4 word) out.new result }
-{
-    let next = put_hex2(out, at, (word / 256) as u8);
-    put_hex2(out, next, (word % 256) as u8)
-}
+    // A writer that begins at the start of a buffer.
+    pub fn new(out: &'a mut [u8]) -> Writer<'a>
+        ensures same_reference { result.out.ghost_name ≡ out.entry.ghost_name }
+        ensures same_bytes { result.out.now ≡ out.old }
+        ensures begins { result.at ≡ 0 }
+    {
+        Writer { out, at: 0 }
+    }
 
-// A number in decimal, with no leading zero.
-pub fn put_decimal(out: &mut [u8], at: usize, number: u64) -> usize
-    ensures { Wrote out.old at (decimal number) out.new result }
-{
-    if number < 10 {
-        put_byte(out, at, digit(number as u8))
-    } else {
-        let next = put_decimal(out, at, number / 10);
-        put_byte(out, next, digit((number % 10) as u8))
+    // The place after what was written: the length of the text, if it began at the start.
+    pub fn place(&self) -> usize
+        ensures { result ≡ self.now.at }
+    {
+        self.at
+    }
+
+    // One character.
+    pub fn put_byte(&mut self, byte: u8)
+        ensures { Writes self.old (byte ∷ []) self.new }
+    {
+        if self.at < self.out.len() {
+            self.out[self.at] = byte;
+        }
+        self.at = self.at.saturating_add(1);
+    }
+
+    // The characters of a text.
+    pub fn put_text(&mut self, text: &[u8])
+        ensures { Writes self.old text.now self.new }
+    {
+        for &character in text {
+            self.put_byte(character);
+        }
+    }
+
+    // A byte as two capital hexadecimal digits.
+    pub fn put_hex2(&mut self, byte: u8)
+        ensures { Writes self.old (hex2 byte) self.new }
+    {
+        self.put_byte(digit(byte / 16));
+        self.put_byte(digit(byte % 16));
+    }
+
+    // A word as four.
+    pub fn put_hex4(&mut self, word: u16)
+        ensures { Writes self.old (hex4 word) self.new }
+    {
+        self.put_hex2((word / 256) as u8);
+        self.put_hex2((word % 256) as u8);
+    }
+
+    // A number in decimal, with no leading zero.
+    pub fn put_decimal(&mut self, number: u64)
+        ensures { Writes self.old (decimal number) self.new }
+    {
+        if 10 <= number {
+            self.put_decimal(number / 10);
+        }
+        self.put_byte(digit((number % 10) as u8));
+    }
+
+    // A byte as a field of a line: a space stands before it.
+    pub fn put_spaced_hex2(&mut self, byte: u8)
+        ensures { Writes self.old (spaced (hex2 byte)) self.new }
+    {
+        self.put_byte(b' ');
+        self.put_hex2(byte);
+    }
+
+    // A word as a field.
+    pub fn put_spaced_hex4(&mut self, word: u16)
+        ensures { Writes self.old (spaced (hex4 word)) self.new }
+    {
+        self.put_byte(b' ');
+        self.put_hex4(word);
+    }
+
+    // A number in decimal as a field.
+    pub fn put_spaced_decimal(&mut self, number: u64)
+        ensures { Writes self.old (spaced (decimal number)) self.new }
+    {
+        self.put_byte(b' ');
+        self.put_decimal(number);
     }
 }
 
-// A byte as a field of a line: a space stands before it.
-pub fn put_spaced_hex2(out: &mut [u8], at: usize, byte: u8) -> usize
-    ensures { Wrote out.old at (spaced (hex2 byte)) out.new result }
+// What a host in C is told of a text that was delivered into its buffer: the answer, and the length of the text, 0 if it is refused.
+pub fn numbers_of(delivered: Result<usize, Refusal>) -> (u8, usize)
+    ensures { result ≡ numbers_of delivered }
 {
-    let next = put_byte(out, at, b' ');
-    put_hex2(out, next, byte)
-}
-
-// A word as a field.
-pub fn put_spaced_hex4(out: &mut [u8], at: usize, word: u16) -> usize
-    ensures { Wrote out.old at (spaced (hex4 word)) out.new result }
-{
-    let next = put_byte(out, at, b' ');
-    put_hex4(out, next, word)
-}
-
-// A number in decimal as a field.
-pub fn put_spaced_decimal(out: &mut [u8], at: usize, number: u64) -> usize
-    ensures { Wrote out.old at (spaced (decimal number)) out.new result }
-{
-    let next = put_byte(out, at, b' ');
-    put_decimal(out, next, number)
+    match delivered {
+        Ok(size) => (NOT_REFUSED, size),
+        Err(refusal) => (refusal.into(), 0),
+    }
 }
