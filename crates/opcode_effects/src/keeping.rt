@@ -66,7 +66,7 @@ fn fetched(mode: AddressingMode, cycles: u8, registers: Registers, memory: &Memo
         registers: past,
         ticks: ticks_of(cycles, flag(target.crossed)),
         first: target.first,
-        value: value,
+        value,
     }
 }
 
