@@ -8,7 +8,7 @@ ghost use Rattle.manual.specs.Micro.{Gives};
 ghost use Rattle.opcode_effects.specs.Inner.Performing.{dispatched, finished};
 
 use memory::Memory;
-use opcode_effects::{Row, adds, finish, keeps, stores, subtracts};
+use opcode_effects::{Performed, Row, adds, finish, keeps, stores, subtracts};
 use opcode_numbers::number::*;
 use registers::Registers;
 
