@@ -38,7 +38,13 @@ impl Travelled {
 }
 
 // A line is served, which is one step: the last level of NMI becomes `nmi`.
-fn serve_line(vector: u16, start: Registers, count: u64, nmi: bool, memory: &mut Memory) -> Travelled
+fn serve_line(
+    vector: u16,
+    start: Registers,
+    count: u64,
+    nmi: bool,
+    memory: &mut Memory,
+) -> Travelled
     requires { (vector + 1 < 65536) × (count ≤ highest_count) }
     ensures { Gives (serving vector start count nmi) memory.old result memory.new }
 {
