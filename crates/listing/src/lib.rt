@@ -16,12 +16,7 @@ mod lines; // lines.rt: the lines of a stretch
 
 // Lists the memory from a first to a last address, and answers the length of the text. The text is written twice, the first time
 // to where nothing is kept, so that a buffer that is too short is left as it was.
-pub fn list(
-    memory: &[u8],
-    first: u16,
-    last: u16,
-    text: &mut [u8],
-) -> Result<usize, Refusal>
+pub fn list(memory: &[u8], first: u16, last: u16, text: &mut [u8]) -> Result<usize, Refusal>
     ensures text_after { with_buffer result text.new ≡ listing_into memory.now first last text.old }
     ensures size_in_bounds { (numbers_of result).1 ≤ length text.old }
 {
