@@ -39,7 +39,8 @@ pub fn argument(rt: HostRuntime, index: usize, word: &mut [u8]) -> &[u8]
 // Whether an argument is there and is that word.
 pub fn argument_is(rt: HostRuntime, index: usize, word: &[u8]) -> bool {
     let mut text = [0u8; LONGEST_WORD];
-    rt.arg(index, &mut text).is_ok_and(|length| &text[..length] == word)
+    rt.arg(index, &mut text)
+        .is_ok_and(|length| &text[..length] == word)
 }
 
 // Whether an argument stands for standard input: it is `-`, or missing. One question is asked, however many words there are.
