@@ -1,14 +1,13 @@
 // What a step will read and what it will store to, found before it is made. Nothing is changed.
 #![tactic(auto)]
 
-ghost use Rattle.std.specs.Prelude.{◌≡◌, ◌+◌, ◌<◌, [], ◌∷◌, length};
-ghost use Rattle.manual.specs.Stepping.{full_memory};
+ghost use Rattle.std.specs.Prelude.{◌≡◌, ◌+◌, ◌<◌, [], ◌∷◌, length, None};
 ghost use Rattle.manual.specs.ReadList.{listed_due, listed_step_full, listed_step};
 ghost use Rattle.manual.specs.StoreList.{stored_by_due, stored_by_step_full, stored_by_step};
 ghost use Rattle.footprint.specs.Places.{footprint_of};
 
-use manual::{Due, FULL_MEMORY, HIGHEST_COUNT, Lines, Machine};
-use memory::{Address, get_byte};
+use manual::{FULL_MEMORY, HIGHEST_COUNT, Lines, Machine};
+use memory::{Address, Memory, get_byte};
 use places::Footprint;
 use reading::reads_by;
 use registers::Registers;
@@ -22,18 +21,16 @@ mod storing; // storing.rt: what is stored to by a way
 mod ways; // ways.rt: the way of each opcode
 
 // What the byte at the counter reads, with itself: what a step reads if no line is due.
-fn reads_quiet(registers: Registers, memory: &[u8]) -> Footprint
-    requires { length memory.now ≡ full_memory }
-    ensures { result ≡ footprint_of (listed_due Due.Quiet registers memory.now) }
+fn reads_quiet(registers: Registers, memory: &Memory) -> Footprint
+    ensures { result ≡ footprint_of (listed_due None registers memory.now) }
 {
     let opcode = get_byte(memory, Address(registers.counter));
     reads_by(reading_way(opcode), registers, memory)
 }
 
 // What the byte at the counter stores to.
-fn stores_quiet(registers: Registers, memory: &[u8]) -> Footprint
-    requires { length memory.now ≡ full_memory }
-    ensures { result ≡ footprint_of (stored_by_due Due.Quiet registers memory.now) }
+fn stores_quiet(registers: Registers, memory: &Memory) -> Footprint
+    ensures { result ≡ footprint_of (stored_by_due None registers memory.now) }
 {
     let opcode = get_byte(memory, Address(registers.counter));
     stores_by(storing_way(opcode), registers, memory)
@@ -44,44 +41,42 @@ fn reads_through(vector: u16) -> Footprint
     requires { vector + 1 < 65536 }
     ensures { result ≡ footprint_of (vector ∷ (vector + 1) ∷ []) }
 {
-    Footprint::two(Address(vector), Address(vector + 1))
+    Footprint::of([vector, vector + 1])
 }
 
 // What a step on a full memory reads.
-pub fn reads_full(machine: Machine, lines: Lines, memory: &[u8]) -> Footprint
-    requires { length memory.now ≡ full_memory }
+pub fn reads_full(machine: Machine, lines: Lines, memory: &Memory) -> Footprint
     ensures { result ≡ footprint_of (listed_step_full lines machine memory.now) }
 {
     if HIGHEST_COUNT < machine.cycles {
-        return Footprint::none();
+        return Footprint::of([]);
     }
     match lines.due(machine) {
-        Due::Through(vector) => reads_through(vector),
-        Due::Quiet => reads_quiet(machine.registers, memory),
+        Some(vector) => reads_through(vector),
+        None => reads_quiet(machine.registers, memory),
     }
 }
 
-// The addresses that a step from here reads, in order.
+// The addresses that a step from here reads, in order. What it shares with `stores_of` is the test of the length alone.
 pub fn reads_of(machine: Machine, lines: Lines, memory: &[u8]) -> Footprint
     ensures { result ≡ footprint_of (listed_step (length memory.now) lines machine memory.now) }
 {
-    if memory.len() != FULL_MEMORY {
-        return Footprint::none();
-    }
+    let Some(memory) = memory.as_array::<FULL_MEMORY>() else {
+        return Footprint::of([]);
+    };
     reads_full(machine, lines, memory)
 }
 
 // What a step on a full memory stores to.
-pub fn stores_full(machine: Machine, lines: Lines, memory: &[u8]) -> Footprint
-    requires { length memory.now ≡ full_memory }
+pub fn stores_full(machine: Machine, lines: Lines, memory: &Memory) -> Footprint
     ensures { result ≡ footprint_of (stored_by_step_full lines machine memory.now) }
 {
     if HIGHEST_COUNT < machine.cycles {
-        return Footprint::none();
+        return Footprint::of([]);
     }
     match lines.due(machine) {
-        Due::Through(_) => pushes(machine.registers),
-        Due::Quiet => stores_quiet(machine.registers, memory),
+        Some(_) => pushes(machine.registers),
+        None => stores_quiet(machine.registers, memory),
     }
 }
 
@@ -89,8 +84,8 @@ pub fn stores_full(machine: Machine, lines: Lines, memory: &[u8]) -> Footprint
 pub fn stores_of(machine: Machine, lines: Lines, memory: &[u8]) -> Footprint
     ensures { result ≡ footprint_of (stored_by_step (length memory.now) lines machine memory.now) }
 {
-    if memory.len() != FULL_MEMORY {
-        return Footprint::none();
-    }
+    let Some(memory) = memory.as_array::<FULL_MEMORY>() else {
+        return Footprint::of([]);
+    };
     stores_full(machine, lines, memory)
 }

@@ -36,7 +36,7 @@ pub fn reached(goal: Goal, ended: Ended) -> bool
     match goal {
         Goal::Unnamed => false,
         Goal::At(address) => {
-            ended.reason.number() == NOT_AN_OPCODE && ended.machine.registers.counter == address
+            u8::from(ended.reason) == NOT_AN_OPCODE && ended.machine.registers.counter == address
         }
         Goal::AllSteps => ended.reason.is_made(),
     }
@@ -50,7 +50,7 @@ pub fn end_status(goal: Goal, ended: Ended) -> u8
     if reached(goal, ended) {
         return 0;
     }
-    match ended.reason.number() {
+    match u8::from(ended.reason) {
         NOT_REFUSED => STILL_RUNNING,
         number => number,
     }
