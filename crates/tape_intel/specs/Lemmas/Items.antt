@@ -8,7 +8,7 @@ use Rattle.text_reading.specs.Numbers.{nowhere, byte_at}
 use Rattle.text_reading.specs.declared.Byte.{Byte}
 use Rattle.tape_records.specs.declared.Parts.{Parts}
 use Rattle.tape_records.specs.declared.Found.TheVariants.{Record, Malformed}
-use Rattle.tape_records.specs.declared.Item.TheVariants.{Data, End, Bad}
+use Rattle.tape_records.specs.Inner.Items.{Data, End, Bad}
 use Rattle.tape_records.specs.Records.{record_of, count, address, sum, last, total, word, Bytes}
 use Rattle.tape_records.specs.Inner.Reading.{found, parts_of}
 use Rattle.tape_records.specs.Contents.{Stretch, stretch, finish, bad}

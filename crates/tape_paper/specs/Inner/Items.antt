@@ -2,8 +2,8 @@
 use Rattle.std.specs.Prelude.{ℕ, ◌+◌, cond, not, eqb, ltb}
 use Rattle.laws.specs.Answers.{wrong_sum, past_the_end, no_end}
 use Rattle.tape_records.specs.declared.Parts.{Parts}
-use Rattle.tape_records.specs.declared.Item.{Item as Told}
-use Rattle.tape_records.specs.declared.Item.TheVariants.{Data, End, Bad}
+use Rattle.tape_records.specs.Inner.Items.{Told}
+use Rattle.tape_records.specs.Inner.Items.{Data, End, Bad}
 
 -- by the numbers that the code has
 abbrev pub told_by : ℕ → Parts → Told

@@ -10,8 +10,8 @@ use Rattle.tape_records.specs.Records.{record_of, count, address, sum, last}
 use Rattle.tape_records.specs.Inner.Reading.{found, parts_of}
 use Rattle.tape_records.specs.Contents.{Stretch, Item, stretch, finish, bad}
 use Rattle.tape_records.specs.Lemmas.Whole.{never, record_length}
-use Rattle.tape_records.specs.declared.Item.{Item as Told}
-use Rattle.tape_records.specs.declared.Item.TheVariants.{Bad}
+use Rattle.tape_records.specs.Inner.Items.{Told}
+use Rattle.tape_records.specs.Inner.Items.{Bad}
 use Rattle.tape_records.specs.Lemmas.Items.{none_found, one_found, told_cond}
 use Rattle.tape_records.specs.Inner.Items.{told}
 use Rattle.tape_paper.specs.Tapes.{judge, tape_item}
