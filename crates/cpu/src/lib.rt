@@ -9,11 +9,11 @@ ghost use Rattle.cpu.specs.Inner.Travelling.{travelled, travelling};
 ghost use Rattle.cpu.specs.Inner.Turning.{raised, serving, Calm, reach, Fits, fitting, turning};
 
 use manual::{
-    Due, Ended, FULL_MEMORY, HIGHEST_BOUND, HIGHEST_COUNT, Lines, Machine, Reason, SERVING_CYCLES,
+    Ended, FULL_MEMORY, HIGHEST_BOUND, HIGHEST_COUNT, Lines, Machine, Reason, SERVING_CYCLES,
     Stepped,
 };
 use memory::{Address, get_byte};
-use opcode_effects::{Dispatched, STEP};
+use opcode_effects::{STEP};
 use opcode_rows::dispatch;
 use registers::Registers;
 use stack::serve;
@@ -61,7 +61,7 @@ fn walk(start: Registers, count: u64, nmi: bool, bound: u64, memory: &mut [u8]) 
     loop {
         let opcode = get_byte(memory, Address(registers.counter));
         match dispatch(opcode, registers, memory) {
-            Dispatched::Performed(performed) => {
+            Some(performed) => {
                 let after = performed.registers;
                 registers = after.kept_apart();
                 let next = wrapping_sub_u64(clock, performed.ticks);
@@ -71,7 +71,7 @@ fn walk(start: Registers, count: u64, nmi: bool, bound: u64, memory: &mut [u8]) 
                 }
                 clock = next;
             }
-            Dispatched::NotAnOpcode => {
+            None => {
                 let left = Machine::new(registers, count + clock % STEP, nmi);
                 return Travelled::new(Reason::NotAnOpcode, bound - 1 - clock / STEP, 0, left);
             }
@@ -121,10 +121,10 @@ pub fn turn(start: Machine, bound: u64, lines: Lines, memory: &mut [u8]) -> Trav
     }
     let waiting = lines.due(start);
     match waiting {
-        Due::Through(vector) => {
+        Some(vector) => {
             serve_line(vector, start.registers, start.cycles, lines.nmi, memory)
         }
-        Due::Quiet => walk(start.registers, start.cycles, lines.nmi, bound, memory),
+        None => walk(start.registers, start.cycles, lines.nmi, bound, memory),
     }
 }
 

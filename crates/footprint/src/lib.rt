@@ -1,13 +1,13 @@
 // What a step will read and what it will store to, found before it is made. Nothing is changed.
 #![tactic(auto)]
 
-ghost use Rattle.std.specs.Prelude.{◌≡◌, ◌+◌, ◌<◌, [], ◌∷◌, length};
+ghost use Rattle.std.specs.Prelude.{◌≡◌, ◌+◌, ◌<◌, [], ◌∷◌, length, None};
 ghost use Rattle.manual.specs.Stepping.{full_memory};
 ghost use Rattle.manual.specs.ReadList.{listed_due, listed_step_full, listed_step};
 ghost use Rattle.manual.specs.StoreList.{stored_by_due, stored_by_step_full, stored_by_step};
 ghost use Rattle.footprint.specs.Places.{footprint_of};
 
-use manual::{Due, FULL_MEMORY, HIGHEST_COUNT, Lines, Machine};
+use manual::{FULL_MEMORY, HIGHEST_COUNT, Lines, Machine};
 use memory::{Address, get_byte};
 use places::Footprint;
 use reading::reads_by;
@@ -24,7 +24,7 @@ mod ways; // ways.rt: the way of each opcode
 // What the byte at the counter reads, with itself: what a step reads if no line is due.
 fn reads_quiet(registers: Registers, memory: &[u8]) -> Footprint
     requires { length memory.now ≡ full_memory }
-    ensures { result ≡ footprint_of (listed_due Due.Quiet registers memory.now) }
+    ensures { result ≡ footprint_of (listed_due None registers memory.now) }
 {
     let opcode = get_byte(memory, Address(registers.counter));
     reads_by(reading_way(opcode), registers, memory)
@@ -33,7 +33,7 @@ fn reads_quiet(registers: Registers, memory: &[u8]) -> Footprint
 // What the byte at the counter stores to.
 fn stores_quiet(registers: Registers, memory: &[u8]) -> Footprint
     requires { length memory.now ≡ full_memory }
-    ensures { result ≡ footprint_of (stored_by_due Due.Quiet registers memory.now) }
+    ensures { result ≡ footprint_of (stored_by_due None registers memory.now) }
 {
     let opcode = get_byte(memory, Address(registers.counter));
     stores_by(storing_way(opcode), registers, memory)
@@ -56,8 +56,8 @@ pub fn reads_full(machine: Machine, lines: Lines, memory: &[u8]) -> Footprint
         return Footprint::none();
     }
     match lines.due(machine) {
-        Due::Through(vector) => reads_through(vector),
-        Due::Quiet => reads_quiet(machine.registers, memory),
+        Some(vector) => reads_through(vector),
+        None => reads_quiet(machine.registers, memory),
     }
 }
 
@@ -80,8 +80,8 @@ pub fn stores_full(machine: Machine, lines: Lines, memory: &[u8]) -> Footprint
         return Footprint::none();
     }
     match lines.due(machine) {
-        Due::Through(_) => pushes(machine.registers),
-        Due::Quiet => stores_quiet(machine.registers, memory),
+        Some(_) => pushes(machine.registers),
+        None => stores_quiet(machine.registers, memory),
     }
 }
 

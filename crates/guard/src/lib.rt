@@ -2,7 +2,7 @@
 // gives was made with one, or store to one that is guarded against stores.
 #![tactic(auto)]
 
-ghost use Rattle.std.specs.Prelude.{◌≡◌, ◌+◌, ◌-◌, ◌<◌, false, not, ◌&&◌, length, if◌then◌else◌};
+ghost use Rattle.std.specs.Prelude.{◌≡◌, ◌+◌, ◌-◌, ◌<◌, false, not, ◌&&◌, length, if◌then◌else◌, Some};
 ghost use Rattle.manual.specs.Outcomes.{machine_of};
 ghost use Rattle.manual.specs.Interrupts.{due};
 ghost use Rattle.manual.specs.Stepping.{full_memory};
@@ -13,9 +13,9 @@ ghost use Rattle.guard.specs.Guarded.{ran, halted, guarded_full, guarded};
 use cpu::{fitting, reach};
 use guard_maps::{Ahead, MAP_SIZE, Touch, look_ahead};
 use guard_near::{is_low_guarded, may_touch};
-use manual::{Due, Ended, FULL_MEMORY, HIGHEST_COUNT, Lines, Machine, Reason, SERVING_CYCLES};
+use manual::{Ended, FULL_MEMORY, HIGHEST_COUNT, Lines, Machine, Reason, SERVING_CYCLES};
 use memory::{Address, get_byte};
-use opcode_effects::{Dispatched, STEP};
+use opcode_effects::{STEP};
 use opcode_rows::dispatch;
 use registers::Registers;
 use stack::serve;
@@ -114,7 +114,7 @@ fn patrol(
         }
         let opcode = get_byte(memory, Address(registers.counter));
         match dispatch(opcode, registers, memory) {
-            Dispatched::Performed(performed) => {
+            Some(performed) => {
                 let after = performed.registers;
                 registers = after.kept_apart();
                 let next = wrapping_sub_u64(clock, performed.ticks);
@@ -125,7 +125,7 @@ fn patrol(
                 }
                 clock = next;
             }
-            Dispatched::NotAnOpcode => {
+            None => {
                 let steps = bound - 1 - clock / STEP;
                 let cycles = start.cycles + clock % STEP;
                 let left = kept(made < steps, start, nmi, registers, cycles);
@@ -145,7 +145,7 @@ fn serve_line(
     stores: &[u8; MAP_SIZE],
     memory: &mut [u8],
 ) -> Guarded
-    requires { (length memory.old ≡ full_memory) × (due lines start ≡ Due.Through vector) × (steps + 1 < 18446744073709551616) }
+    requires { (length memory.old ≡ full_memory) × (due lines start ≡ Some vector) × (steps + 1 < 18446744073709551616) }
     ensures { (result, memory.new)
         ≡ guarded_full (in_map reads.now) (in_map stores.now) 1 steps lines start memory.old }
 {
@@ -183,8 +183,8 @@ fn turn(
         memory.old }
 {
     match lines.due(start) {
-        Due::Through(vector) => serve_line(vector, start, steps, lines, reads, stores, memory),
-        Due::Quiet => patrol(start, lines.nmi, steps, bound, reads, stores, memory),
+        Some(vector) => serve_line(vector, start, steps, lines, reads, stores, memory),
+        None => patrol(start, lines.nmi, steps, bound, reads, stores, memory),
     }
 }
 

@@ -111,7 +111,7 @@ pub fn stop_answer(ended: Ended, stop: u16) -> u8
 {
     let reason = ended.reason;
     if !reason.is_made() {
-        return reason.number();
+        return u8::from(reason);
     }
     if is_at(ended.machine, stop) {
         return NOT_REFUSED;

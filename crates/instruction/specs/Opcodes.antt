@@ -1,5 +1,5 @@
 -- The 151 documented opcodes, laid out as docs/RULES.md lists them, with their base cycles (manual, appendices; the rules for the numbers).
-use Rattle.std.specs.Prelude.{ℕ, cond, List, [], ◌∷◌, ◌++◌, eqb}
+use Rattle.std.specs.Prelude.{ℕ, cond, List, [], ◌∷◌, ◌++◌, eqb, Option, Some, None}
 use Rattle.instruction.specs.declared.Instruction.{Instruction}
 use Rattle.instruction.specs.declared.Instruction.TheVariants.{Read, Store, Modify, Branch, Internal, BRK, JMP, JSR, PHA, PHP, PLA, PLP, RTI, RTS}
 use Rattle.instruction.specs.declared.ReadOperation.TheVariants.{ADC, AND, BIT, CMP, CPX, CPY, EOR, LDA, LDX, LDY, ORA, SBC}
@@ -10,8 +10,6 @@ use Rattle.instruction.specs.declared.InternalOperation.TheVariants.{CLC, CLD, C
 use Rattle.instruction.specs.declared.AddressingMode.{AddressingMode}
 use Rattle.instruction.specs.declared.AddressingMode.TheVariants.{Accumulator, Implied, Immediate, ZeroPage, ZeroPageX, ZeroPageY, Relative, Absolute, AbsoluteX, AbsoluteY, BuggyIndirect, IndexedIndirectX, IndirectIndexedY}
 use Rattle.instruction.specs.declared.Entry.{Entry}
-use Rattle.instruction.specs.declared.Decoded.{Decoded}
-use Rattle.instruction.specs.declared.Decoded.TheVariants.{Defined, Undefined}
 
 -- a column: an addressing mode, and the cycles that an operation of the class takes in it
 abbrev pub Column : Type 0
@@ -89,10 +87,10 @@ rows =
     ++ each (Implied, 2) ((Internal TXA, 0x8A) ∷ (Internal TXS, 0x9A) ∷ (Internal TAX, 0xAA) ∷ (Internal TSX, 0xBA) ∷ [])
     ++ each (Implied, 2) ((Internal DEX, 0xCA) ∷ (Internal NOP, 0xEA) ∷ [])
 
-abbrev pub find : ℕ → List Row → Decoded
-find k [] = Undefined
-find k (r ∷ rs) = cond (eqb k r.opcode) (Defined r.entry) (find k rs)
+abbrev pub find : ℕ → List Row → Option Entry
+find k [] = None
+find k (r ∷ rs) = cond (eqb k r.opcode) (Some r.entry) (find k rs)
 
 -- what an opcode means
-unfoldable pub decoded : ℕ → Decoded
+unfoldable pub decoded : ℕ → Option Entry
 decoded k = find k rows

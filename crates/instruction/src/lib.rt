@@ -5,7 +5,7 @@ ghost use Rattle.std.specs.Prelude.{◌≤◌, ◌≡◌};
 ghost use Rattle.instruction.specs.Modes.{operand_bytes};
 
 // Reads a byte: an operand of the arithmetic unit, or what a register is loaded or compared with.
-#[derive(Clone, Copy)]
+#[derive(Clone, Copy, PartialEq, Eq)]
 pub enum ReadOperation {
     ADC,
     AND,
@@ -22,7 +22,7 @@ pub enum ReadOperation {
 }
 
 // Stores a register.
-#[derive(Clone, Copy)]
+#[derive(Clone, Copy, PartialEq, Eq)]
 pub enum StoreOperation {
     STA,
     STX,
@@ -30,7 +30,7 @@ pub enum StoreOperation {
 }
 
 // Reads a byte and stores it changed, or changes the accumulator.
-#[derive(Clone, Copy)]
+#[derive(Clone, Copy, PartialEq, Eq)]
 pub enum ModifyOperation {
     ASL,
     DEC,
@@ -40,7 +40,7 @@ pub enum ModifyOperation {
     ROR,
 }
 
-#[derive(Clone, Copy)]
+#[derive(Clone, Copy, PartialEq, Eq)]
 pub enum BranchOperation {
     BCC,
     BCS,
@@ -53,7 +53,7 @@ pub enum BranchOperation {
 }
 
 // Works on registers and flags alone.
-#[derive(Clone, Copy)]
+#[derive(Clone, Copy, PartialEq, Eq)]
 pub enum InternalOperation {
     CLC,
     CLD,
@@ -76,7 +76,7 @@ pub enum InternalOperation {
 }
 
 // The 56 operations, by class.
-#[derive(Clone, Copy)]
+#[derive(Clone, Copy, PartialEq, Eq)]
 pub enum Instruction {
     Read(ReadOperation),
     Store(StoreOperation),
@@ -94,7 +94,7 @@ pub enum Instruction {
     RTS,
 }
 
-#[derive(Clone, Copy)]
+#[derive(Clone, Copy, PartialEq, Eq)]
 pub enum AddressingMode {
     Accumulator,
     Implied,
@@ -118,33 +118,26 @@ impl AddressingMode {
         ensures upper_bound { result ≤ 2 }
     {
         match self {
-            AddressingMode::Accumulator => 0,
-            AddressingMode::Implied => 0,
-            AddressingMode::Immediate => 1,
-            AddressingMode::ZeroPage => 1,
-            AddressingMode::ZeroPageX => 1,
-            AddressingMode::ZeroPageY => 1,
-            AddressingMode::Relative => 1,
-            AddressingMode::Absolute => 2,
-            AddressingMode::AbsoluteX => 2,
-            AddressingMode::AbsoluteY => 2,
-            AddressingMode::BuggyIndirect => 2,
-            AddressingMode::IndexedIndirectX => 1,
-            AddressingMode::IndirectIndexedY => 1,
+            AddressingMode::Accumulator | AddressingMode::Implied => 0,
+            AddressingMode::Immediate
+            | AddressingMode::ZeroPage
+            | AddressingMode::ZeroPageX
+            | AddressingMode::ZeroPageY
+            | AddressingMode::Relative
+            | AddressingMode::IndexedIndirectX
+            | AddressingMode::IndirectIndexedY => 1,
+            AddressingMode::Absolute
+            | AddressingMode::AbsoluteX
+            | AddressingMode::AbsoluteY
+            | AddressingMode::BuggyIndirect => 2,
         }
     }
 }
 
 // One row of the opcode table.
-#[derive(Clone, Copy)]
+#[derive(Clone, Copy, PartialEq, Eq)]
 pub struct Entry {
     pub instruction: Instruction,
     pub mode: AddressingMode,
     pub cycles: u8,
-}
-
-#[derive(Clone, Copy)]
-pub enum Decoded {
-    Defined(Entry),
-    Undefined,
 }

@@ -1,11 +1,10 @@
 -- How long a listing can be: 14 characters for each byte of a line, and of a stretch.
 use Prim.Native.Nat.{ℕ, zero, suc, ◌-◌, ◌*◌, ◌≤◌, ◌<◌}
-use Rattle.std.specs.Prelude.{◌≡◌, refl, Bool, true, false, cond, List, ◌∷◌, leb, length, get_or}
+use Rattle.std.specs.Prelude.{◌≡◌, refl, Bool, true, false, cond, List, ◌∷◌, leb, length, get_or, Option, None}
+use Rattle.instruction.specs.declared.Entry.{Entry}
 use native.Mathlib.Omega.{arith}
 use Rattle.std.proofs.Math.ListN.{length-append}
 use borrow.Author.Tests.{leb-true}
-use Rattle.instruction.specs.declared.Decoded.{Decoded}
-use Rattle.instruction.specs.declared.Decoded.TheVariants.{Undefined}
 use Rattle.instruction.specs.Opcodes.{decoded}
 use Rattle.listing.specs.Lines.{Line, bytes_from, size, line_of, unknown, lines, text, texts, per_byte}
 use Rattle.listing.specs.Listing.{listing, longest_listing}
@@ -14,7 +13,7 @@ use Rattle.listing.specs.Lemmas.Lengths.{name_length, operand_of_share, field_le
 
 module _ (m : List ℕ) where
   -- 14 characters for each byte of a line, and of a stretch
-  line_share : (at : ℕ) (d : Decoded) → length (text (line_of m at d)) ≤ per_byte * size d
+  line_share : (at : ℕ) (d : Option Entry) → length (text (line_of m at d)) ≤ per_byte * size d
   line_share at d =
       simp length-append
       (omega (arith, field_length (bytes_from m at (size d)), bytes_length m at (size d), size_some d, name_length d, operand_of_share m at d))
@@ -24,8 +23,8 @@ module _ (m : List ℕ) where
   unknown_length at (suc n) =
       omega (
         arith,
-        length-append (text (line_of m at Undefined)) (texts (unknown m (suc at) n)),
-        line_share at Undefined,
+        length-append (text (line_of m at None)) (texts (unknown m (suc at) n)),
+        line_share at None,
         unknown_length (suc at) n,
       )
 

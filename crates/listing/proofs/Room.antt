@@ -1,11 +1,11 @@
 -- How much room a listing takes.
 use Prim.Native.Nat.{ℕ, zero, suc, ◌+◌, ◌-◌, ◌*◌, ◌≤◌, ◌<◌}
-use Rattle.std.specs.Prelude.{◌≡◌, List, ◌++◌, get_or, length}
+use Rattle.std.specs.Prelude.{◌≡◌, List, ◌++◌, get_or, length, Option}
+use Rattle.instruction.specs.declared.Entry.{Entry}
 use Rattle.std.proofs.Math.Path.{refl, ap}
 use native.Mathlib.Omega.{arith}
 use Rattle.std.proofs.Math.ListN.{length-append}
 use borrow.Author.Tests.{le-leb, eq-eqb, le-ltb}
-use Rattle.instruction.specs.declared.Decoded.{Decoded}
 use Rattle.instruction.specs.Opcodes.{rows, decoded}
 use Rattle.laws.specs.Answers.{not_refused}
 use Rattle.manual.specs.Stepping.{full_memory}
@@ -33,7 +33,7 @@ unfolding mnemonic written operand rows decoded
 accumulator_length m at = refl
 
 module _ (m : List ℕ) where
-  one_byte : (at n : ℕ) (d : Decoded) → decoded (get_or m at 0) ≡ d → size d ≡ 1
+  one_byte : (at n : ℕ) (d : Option Entry) → decoded (get_or m at 0) ≡ d → size d ≡ 1
       → texts (lines m at (suc n) 0) ≡ text (line_of m at d) ++ texts (lines m (suc at) n 0)
   unfolding lines
   one_byte at n d e f = rw (e, f, le-leb 1 (suc n) (omega arith))

@@ -1,7 +1,6 @@
 -- The lines of a listing: what each byte of a stretch of memory is, as an instruction or a part of one.
-use Rattle.std.specs.Prelude.{ℕ, zero, suc, ◌-◌, cond, List, [], ◌∷◌, ◌++◌, leb, get_or}
-use Rattle.instruction.specs.declared.Decoded.{Decoded}
-use Rattle.instruction.specs.declared.Decoded.TheVariants.{Defined, Undefined}
+use Rattle.std.specs.Prelude.{ℕ, zero, suc, ◌-◌, cond, List, [], ◌∷◌, ◌++◌, leb, get_or, Option, Some, None}
+use Rattle.instruction.specs.declared.Entry.{Entry}
 use Rattle.instruction.specs.Opcodes.{decoded}
 use Rattle.instruction.specs.Modes.{length_of}
 use Rattle.manual.specs.Words.{address_of}
@@ -22,24 +21,24 @@ bytes_from m at zero = []
 bytes_from m at (suc n) = get_or m (address_of at) 0 ∷ bytes_from m (suc at) n
 
 -- the bytes that a line takes, its words and the line, by what stands at its address
-abbrev pub size : Decoded → ℕ
-size Undefined = 1
-size (Defined e) = length_of e.mode
+abbrev pub size : Option Entry → ℕ
+size None = 1
+size (Some e) = length_of e.mode
 
-abbrev pub operand_of : List ℕ → ℕ → Decoded → List ℕ
-operand_of m at Undefined = []
-operand_of m at (Defined e) = operand e.mode m at
+abbrev pub operand_of : List ℕ → ℕ → Option Entry → List ℕ
+operand_of m at None = []
+operand_of m at (Some e) = operand e.mode m at
 
-abbrev pub words : List ℕ → ℕ → Decoded → List ℕ
+abbrev pub words : List ℕ → ℕ → Option Entry → List ℕ
 words m at d = name_of d ++ operand_of m at d
 
-abbrev pub line_of : List ℕ → ℕ → Decoded → Line
+abbrev pub line_of : List ℕ → ℕ → Option Entry → Line
 line_of m at d = record { address = at; bytes = bytes_from m at (size d); words = words m at d }
 
 -- bytes that are no whole instruction
 abbrev pub unknown : List ℕ → ℕ → ℕ → List Line
 unknown m at zero = []
-unknown m at (suc n) = line_of m at Undefined ∷ unknown m (suc at) n
+unknown m at (suc n) = line_of m at None ∷ unknown m (suc at) n
 
 -- the lines of n bytes from an address on, of which the first `covered` stand in the line before; an instruction that would run past the
 -- end is shown byte by byte

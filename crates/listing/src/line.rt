@@ -1,11 +1,9 @@
 // One line of the listing.
-ghost use Rattle.std.specs.Prelude.{◌≤◌, ◌<◌, ◌≡◌, length, get_or};
-ghost use Rattle.instruction.specs.declared.Decoded.TheVariants.{Undefined};
+ghost use Rattle.std.specs.Prelude.{◌≤◌, ◌<◌, ◌≡◌, length, get_or, None};
 ghost use Rattle.instruction.specs.Opcodes.{decoded};
 ghost use Rattle.text_writing.specs.Written.{Wrote};
 ghost use Rattle.listing.specs.Lines.{bytes_from, byte_fields, size as Lines·size, words, line_of, text as Lines·text, instruction_at};
 
-use instruction::Decoded;
 use listing_operands::put_operand;
 use memory::{Address, get_byte};
 use opcode_table::{decode, name_of};
@@ -17,8 +15,8 @@ pub(crate) fn line_size(opcode: u8) -> u16
     ensures result_nonzero { (0 < result) × (result ≤ 3) }
 {
     match decode(opcode) {
-        Decoded::Undefined => 1,
-        Decoded::Defined(entry) => {
+        None => 1,
+        Some(entry) => {
             let mode = entry.mode;
             1 + mode.extra_bytes()
         }
@@ -47,8 +45,8 @@ fn put_words(out: &mut [u8], at: usize, opcode: u8, memory: &[u8], address: u16)
     let name = name_of(opcode);
     let after_name = put_text(out, at, &name);
     match decode(opcode) {
-        Decoded::Undefined => after_name,
-        Decoded::Defined(entry) => {
+        None => after_name,
+        Some(entry) => {
             let mode = entry.mode;
             put_operand(out, after_name, mode, memory, address)
         }

@@ -1,12 +1,10 @@
 -- Interrupts (manual, chapter 9): the way into one, which BRK and the two lines share, and when a line is due.
-use Rattle.std.specs.Prelude.{ℕ, ◌+◌, Bool, true, not, cond, ◌&&◌}
+use Rattle.std.specs.Prelude.{ℕ, ◌+◌, Bool, true, not, cond, ◌&&◌, Option, Some, None}
 use Rattle.registers.specs.declared.Registers.{Registers}
 use Rattle.registers.specs.State.{set_pc, set_i, flags}
 use Rattle.registers.specs.StatusByte.{served_byte}
 use Rattle.manual.specs.declared.Lines.{Lines}
 use Rattle.manual.specs.declared.Machine.{Machine}
-use Rattle.manual.specs.declared.Due.{Due}
-use Rattle.manual.specs.declared.Due.TheVariants.{Through, Quiet}
 use Rattle.manual.specs.Micro.{Micro, done, ◌>>=◌}
 use Rattle.manual.specs.Addressing.{word}
 use Rattle.manual.specs.Stack.{push, push_address}
@@ -46,5 +44,5 @@ abbrev pub calls : Lines → Machine → Bool
 calls lines s = not lines.irq && not s.registers.status.disable
 
 -- what is due before an opcode: NMI comes first
-abbrev pub due : Lines → Machine → Due
-due lines s = cond (falls lines s) (Through nmi_vector) (cond (calls lines s) (Through irq_vector) Quiet)
+abbrev pub due : Lines → Machine → Option ℕ
+due lines s = cond (falls lines s) (Some nmi_vector) (cond (calls lines s) (Some irq_vector) None)

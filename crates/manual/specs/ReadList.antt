@@ -3,20 +3,17 @@
 -- A step that serves a line reads the two bytes of its vector and nothing else.
 -- The list takes no more from the definition than the address that a mode leads to, and the state between two steps. That the definition
 -- reads exactly these bytes, in this order, is a theorem (Theorems/Reads).
-use Rattle.std.specs.Prelude.{ℕ, zero, suc, ◌+◌, Bool, true, false, cond, List, [], ◌∷◌, ◌++◌, eqb, leb, ltb, get_or, take}
+use Rattle.std.specs.Prelude.{ℕ, zero, suc, ◌+◌, Bool, true, false, cond, List, [], ◌∷◌, ◌++◌, eqb, leb, ltb, get_or, take, Option, Some, None}
+use Rattle.instruction.specs.declared.Entry.{Entry}
 use Rattle.registers.specs.declared.Registers.{Registers}
 use Rattle.instruction.specs.declared.Instruction.{Instruction}
 use Rattle.instruction.specs.declared.Instruction.TheVariants.{Read, Store, Modify, Branch, Internal, BRK, JMP, JSR, PHA, PHP, PLA, PLP, RTI, RTS}
 use Rattle.instruction.specs.declared.AddressingMode.{AddressingMode}
 use Rattle.instruction.specs.declared.AddressingMode.TheVariants.{Accumulator, Implied, Immediate, ZeroPage, ZeroPageX, ZeroPageY, Relative, Absolute, AbsoluteX, AbsoluteY, BuggyIndirect, IndexedIndirectX, IndirectIndexedY}
-use Rattle.instruction.specs.declared.Decoded.{Decoded}
-use Rattle.instruction.specs.declared.Decoded.TheVariants.{Defined, Undefined}
 use Rattle.instruction.specs.Modes.{operand_bytes}
 use Rattle.instruction.specs.Opcodes.{decoded}
 use Rattle.manual.specs.declared.Lines.{Lines}
 use Rattle.manual.specs.declared.Machine.{Machine}
-use Rattle.manual.specs.declared.Due.{Due}
-use Rattle.manual.specs.declared.Due.TheVariants.{Through, Quiet}
 use Rattle.manual.specs.Micro.{exec}
 use Rattle.manual.specs.Words.{low_byte, page, joined}
 use Rattle.manual.specs.Addressing.{operand, target}
@@ -95,14 +92,14 @@ listed PHA mode r m = []
 listed PHP mode r m = []
 listed BRK mode r m = 0xFFFE ∷ 0xFFFF ∷ []
 
-abbrev pub listed_entry : Decoded → Registers → List ℕ → List ℕ
-listed_entry (Defined e) r m = listed e.instruction e.mode r m
-listed_entry Undefined r m = []
+abbrev pub listed_entry : Option Entry → Registers → List ℕ → List ℕ
+listed_entry (Some e) r m = listed e.instruction e.mode r m
+listed_entry None r m = []
 
 -- the vector of a line that is served, or the opcode and what its row lists
-abbrev pub listed_due : Due → Registers → List ℕ → List ℕ
-listed_due (Through vector) r m = vector ∷ (vector + 1) ∷ []
-listed_due Quiet r m = r.counter ∷ listed_entry (decoded (get_or m r.counter 0)) r m
+abbrev pub listed_due : Option ℕ → Registers → List ℕ → List ℕ
+listed_due (Some vector) r m = vector ∷ (vector + 1) ∷ []
+listed_due None r m = r.counter ∷ listed_entry (decoded (get_or m r.counter 0)) r m
 
 -- a step refused with 1 or 2 reads nothing, one refused with 3 reads the opcode
 abbrev pub listed_step_full : Lines → Machine → List ℕ → List ℕ

@@ -1,13 +1,10 @@
 -- A step and the runs, with their refusals. Each takes the present levels of the lines, which hold for the whole of it.
-use Rattle.std.specs.Prelude.{ℕ, zero, suc, ◌+◌, Bool, true, cond, eqb, leb, ltb}
+use Rattle.std.specs.Prelude.{ℕ, zero, suc, ◌+◌, Bool, true, cond, eqb, leb, ltb, Option, Some, None}
+use Rattle.instruction.specs.declared.Entry.{Entry}
 use Rattle.registers.specs.declared.Registers.{Registers}
-use Rattle.instruction.specs.declared.Decoded.{Decoded}
-use Rattle.instruction.specs.declared.Decoded.TheVariants.{Defined, Undefined}
 use Rattle.instruction.specs.Opcodes.{decoded}
 use Rattle.manual.specs.declared.Lines.{Lines}
 use Rattle.manual.specs.declared.Machine.{Machine}
-use Rattle.manual.specs.declared.Due.{Due}
-use Rattle.manual.specs.declared.Due.TheVariants.{Through, Quiet}
 use Rattle.manual.specs.declared.Stepped.{Stepped}
 use Rattle.manual.specs.declared.Ended.{Ended}
 use Rattle.manual.specs.declared.Reason.TheVariants.{Made, MemoryNotFull, NoCycleRoom, NotAnOpcode, BoundTooHigh}
@@ -32,18 +29,18 @@ abbrev pub made : Lines → Machine → ℕ → Registers → ℕ → Stepped
 made lines s first r cycles = stepped Made first (machine_of r (s.cycles + cycles) lines.nmi)
 
 -- what an opcode's row does: its cycles and the extra ones are added
-unfoldable pub act : Decoded → Lines → Machine → Micro Stepped
-act (Defined entry) lines s = do
+unfoldable pub act : Option Entry → Lines → Machine → Micro Stepped
+act (Some entry) lines s = do
   effect ← perform entry.instruction entry.mode s.registers
   done (made lines s effect.first effect.registers (entry.cycles + effect.extra))
-act Undefined lines s = done (refused NotAnOpcode s)
+act None lines s = done (refused NotAnOpcode s)
 
 -- a line is served in place of an opcode, which is not read; otherwise the byte at the counter is one
-unfoldable pub attend : Due → Lines → Machine → Micro Stepped
-attend (Through vector) lines s = do
+unfoldable pub attend : Option ℕ → Lines → Machine → Micro Stepped
+attend (Some vector) lines s = do
   r ← served vector s.registers
   done (made lines s 0 r serving_cycles)
-attend Quiet lines s = do
+attend None lines s = do
   opcode ← fetch s.registers.counter
   act (decoded opcode) lines s
 

@@ -1,5 +1,6 @@
 -- The addresses that a step stores to, exactly and in order: the target of a store or of a modified byte, and what is pushed.
-use Rattle.std.specs.Prelude.{ℕ, ◌+◌, cond, List, [], ◌∷◌, eqb, ltb, get_or}
+use Rattle.std.specs.Prelude.{ℕ, ◌+◌, cond, List, [], ◌∷◌, eqb, ltb, get_or, Option, Some, None}
+use Rattle.instruction.specs.declared.Entry.{Entry}
 use Rattle.registers.specs.declared.Registers.{Registers}
 use Rattle.instruction.specs.declared.Instruction.{Instruction}
 use Rattle.instruction.specs.declared.Instruction.TheVariants.{Read, Store, Modify, Branch, Internal, BRK, JMP, JSR, PHA, PHP, PLA, PLP, RTI, RTS}
@@ -8,13 +9,9 @@ use Rattle.instruction.specs.Modes.{operand_bytes}
 use Rattle.manual.specs.Micro.{exec}
 use Rattle.manual.specs.Words.{low_byte, joined}
 use Rattle.manual.specs.Addressing.{target}
-use Rattle.instruction.specs.declared.Decoded.{Decoded}
-use Rattle.instruction.specs.declared.Decoded.TheVariants.{Defined, Undefined}
 use Rattle.instruction.specs.Opcodes.{decoded}
 use Rattle.manual.specs.declared.Lines.{Lines}
 use Rattle.manual.specs.declared.Machine.{Machine}
-use Rattle.manual.specs.declared.Due.{Due}
-use Rattle.manual.specs.declared.Due.TheVariants.{Through, Quiet}
 use Rattle.manual.specs.Interrupts.{due}
 use Rattle.manual.specs.Stepping.{full_memory, highest_count}
 
@@ -42,14 +39,14 @@ stored_to PHA mode r m = joined 1 r.stack.0 ∷ []
 stored_to PHP mode r m = joined 1 r.stack.0 ∷ []
 stored_to BRK mode r m = three_pushed r
 
-abbrev pub stored_by_entry : Decoded → Registers → List ℕ → List ℕ
-stored_by_entry (Defined e) r m = stored_to e.instruction e.mode r m
-stored_by_entry Undefined r m = []
+abbrev pub stored_by_entry : Option Entry → Registers → List ℕ → List ℕ
+stored_by_entry (Some e) r m = stored_to e.instruction e.mode r m
+stored_by_entry None r m = []
 
 -- a line that is served pushes three bytes
-abbrev pub stored_by_due : Due → Registers → List ℕ → List ℕ
-stored_by_due (Through vector) r m = three_pushed r
-stored_by_due Quiet r m = stored_by_entry (decoded (get_or m r.counter 0)) r m
+abbrev pub stored_by_due : Option ℕ → Registers → List ℕ → List ℕ
+stored_by_due (Some vector) r m = three_pushed r
+stored_by_due None r m = stored_by_entry (decoded (get_or m r.counter 0)) r m
 
 -- a refused step stores nothing
 abbrev pub stored_by_step_full : Lines → Machine → List ℕ → List ℕ

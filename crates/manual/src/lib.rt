@@ -24,7 +24,7 @@ pub const IRQ_VECTOR: u16 = 0xFFFE;
 pub const SERVING_CYCLES: u64 = 7;
 
 // What a step changes besides memory: the registers, the cycle count, and the last level of NMI, true if it was high.
-#[derive(Clone, Copy)]
+#[derive(Clone, Copy, PartialEq, Eq)]
 pub struct Machine {
     pub registers: Registers,
     pub cycles: u64,
@@ -32,22 +32,15 @@ pub struct Machine {
 }
 
 // The present levels of the interrupt lines, true if one is high. They hold for a whole step or run.
-#[derive(Clone, Copy)]
+#[derive(Clone, Copy, PartialEq, Eq)]
 pub struct Lines {
     pub irq: bool,
     pub nmi: bool,
 }
 
-// What is due before an opcode: a line is served through its vector, or none is.
-#[derive(Clone, Copy)]
-pub enum Due {
-    Through(u16),
-    Quiet,
-}
-
 // Where an addressing mode leads; whether that is another page than the one it was counted from, the page of an indexed
 // base, or of the counter past a branch; and the first address on the bus, before a carry reaches the high byte.
-#[derive(Clone, Copy)]
+#[derive(Clone, Copy, PartialEq, Eq)]
 pub struct Target {
     pub address: u16,
     pub crossed: bool,
@@ -55,7 +48,7 @@ pub struct Target {
 }
 
 // What ADC and SBC give, as in lib.rs; N and Z are those of the result.
-#[derive(Clone, Copy)]
+#[derive(Clone, Copy, PartialEq, Eq)]
 pub struct ArithmeticOutput {
     pub result: u8,
     pub carry: bool,
@@ -63,14 +56,14 @@ pub struct ArithmeticOutput {
 }
 
 // One decimal digit of a sum or difference, and whether it carries into the next one or borrows from it.
-#[derive(Clone, Copy)]
+#[derive(Clone, Copy, PartialEq, Eq)]
 pub struct Digit {
     pub value: u8,
     pub over: bool,
 }
 
 // What an instruction leaves: the registers, the cycles beyond its base, and its first address on the bus.
-#[derive(Clone, Copy)]
+#[derive(Clone, Copy, PartialEq, Eq)]
 pub struct Effect {
     pub registers: Registers,
     pub extra: u8,
@@ -78,7 +71,7 @@ pub struct Effect {
 }
 
 // Why a step or a run ended: every step that was asked for was made, or the refusal that stopped it.
-#[derive(Clone, Copy)]
+#[derive(Clone, Copy, PartialEq, Eq)]
 pub enum Reason {
     Made,
     MemoryNotFull,
@@ -89,7 +82,7 @@ pub enum Reason {
 
 // What a step answers, its first address on the bus, and the machine that it leaves: in a refusal 0000, and the one
 // that was given.
-#[derive(Clone, Copy)]
+#[derive(Clone, Copy, PartialEq, Eq)]
 pub struct Stepped {
     pub reason: Reason,
     pub first: u16,
@@ -97,7 +90,7 @@ pub struct Stepped {
 }
 
 // What a run answers, the steps that it made, and the machine after them.
-#[derive(Clone, Copy)]
+#[derive(Clone, Copy, PartialEq, Eq)]
 pub struct Ended {
     pub reason: Reason,
     pub steps: u64,
@@ -109,9 +102,9 @@ pub fn leaves_at(first: u16, registers: Registers, extra: u8) -> Effect
     ensures { result ≡ leaves_at first registers extra }
 {
     Effect {
-        registers: registers,
-        extra: extra,
-        first: first,
+        registers,
+        extra,
+        first,
     }
 }
 
@@ -128,9 +121,9 @@ impl Machine {
         ensures { result ≡ machine_of registers cycles nmi }
     {
         Machine {
-            registers: registers,
-            cycles: cycles,
-            nmi: nmi,
+            registers,
+            cycles,
+            nmi,
         }
     }
 }
@@ -145,20 +138,20 @@ impl Lines {
             nmi: true,
         }
     }
-    // What is due before an opcode. Idle lines come first, since nothing else need be looked at then.
-    pub fn due(self, machine: Machine) -> Due
+    // The vector of the line that is due before an opcode, if one is. Idle lines come first, since nothing else need be looked at then.
+    pub fn due(self, machine: Machine) -> Option<u16>
         ensures { result ≡ due self machine }
     {
         if self.nmi && self.irq {
-            return Due::Quiet;
+            return None;
         }
         if machine.nmi && !self.nmi {
-            return Due::Through(NMI_VECTOR);
+            return Some(NMI_VECTOR);
         }
         if !self.irq && !machine.registers.status.disable {
-            return Due::Through(IRQ_VECTOR);
+            return Some(IRQ_VECTOR);
         }
-        Due::Quiet
+        None
     }
 }
 
@@ -168,9 +161,9 @@ impl Stepped {
         ensures { result ≡ stepped reason first machine }
     {
         Stepped {
-            reason: reason,
-            first: first,
-            machine: machine,
+            reason,
+            first,
+            machine,
         }
     }
 }
@@ -181,36 +174,33 @@ impl Ended {
         ensures { result ≡ ended reason steps machine }
     {
         Ended {
-            reason: reason,
-            steps: steps,
-            machine: machine,
+            reason,
+            steps,
+            machine,
         }
     }
 }
 
 impl Reason {
-    // The answer number.
-    pub fn number(self) -> u8
-        ensures { result ≡ number self }
+    // Whether every step that was asked for was made.
+    pub fn is_made(self) -> bool
+        ensures { result ≡ is_made self }
     {
-        match self {
+        matches!(self, Reason::Made)
+    }
+}
+
+impl From<Reason> for u8 {
+    ghost from_gives = { λ reason answer. answer ≡ number reason };
+
+    // Its answer number.
+    fn from(reason: Reason) -> u8 {
+        match reason {
             Reason::Made => NOT_REFUSED,
             Reason::MemoryNotFull => MEMORY_NOT_FULL,
             Reason::NoCycleRoom => NO_CYCLE_ROOM,
             Reason::NotAnOpcode => NOT_AN_OPCODE,
             Reason::BoundTooHigh => BOUND_TOO_HIGH,
-        }
-    }
-    // Whether every step that was asked for was made.
-    pub fn is_made(self) -> bool
-        ensures { result ≡ is_made self }
-    {
-        match self {
-            Reason::Made => true,
-            Reason::MemoryNotFull => false,
-            Reason::NoCycleRoom => false,
-            Reason::NotAnOpcode => false,
-            Reason::BoundTooHigh => false,
         }
     }
 }

@@ -10,11 +10,11 @@ use manual::FULL_MEMORY;
 pub type Memory = [u8; FULL_MEMORY];
 
 // An address in the zero page is one byte, and reaches memory only through its page.
-#[derive(Clone, Copy)]
+#[derive(Clone, Copy, PartialEq, Eq)]
 pub struct ZeroPage(pub u8);
 
 // Any address.
-#[derive(Clone, Copy)]
+#[derive(Clone, Copy, PartialEq, Eq)]
 pub struct Address(pub u16);
 
 // The address of a byte in a page: the one place where the two are joined.
@@ -36,7 +36,7 @@ impl ZeroPage {
     pub fn plus(self, index: u8) -> ZeroPage
         ensures { result.0 ≡ low_byte (self.0 + index) }
     {
-        ZeroPage(std::num::wrapping_add_u8(self.0, index))
+        ZeroPage(self.0.wrapping_add(index))
     }
 }
 
@@ -45,7 +45,7 @@ impl Address {
     pub fn plus(self, count: u16) -> Address
         ensures { result.0 ≡ address_of (self.0 + count) }
     {
-        Address(std::num::wrapping_add_u16(self.0, count))
+        Address(self.0.wrapping_add(count))
     }
 
     // The page.
@@ -67,27 +67,21 @@ impl Address {
 pub fn get_byte(memory: &Memory, at: Address) -> u8
     ensures { result ≡ slice_index memory.now at.0 }
 {
-    let index = at.0 as usize;
-    memory[index]
+    memory[at.0 as usize]
 }
 
 // The same of a memory of any length: past its end stands 0.
 pub fn peek(memory: &[u8], at: Address) -> u8
     ensures { result ≡ slice_index memory.now at.0 }
 {
-    let index = at.0 as usize;
-    if index < memory.len() {
-        return memory[index];
-    }
-    0
+    memory.get(at.0 as usize).copied().unwrap_or(0)
 }
 
 // Stores a byte at an address.
 pub fn set_byte(memory: &mut Memory, at: Address, byte: u8)
     ensures { memory.new ≡ slice_set memory.old at.0 byte }
 {
-    let index = at.0 as usize;
-    memory[index] = byte;
+    memory[at.0 as usize] = byte;
 }
 
 // Two bytes of an address, the low one first.

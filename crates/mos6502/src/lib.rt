@@ -110,7 +110,7 @@ fn advance(
     let reason = ended.reason;
     *steps = ended.steps;
     hand_back(0 < ended.steps, ended.machine, registers, cycles);
-    reason.number()
+    u8::from(reason)
 }
 
 // A turn of at most `bound` steps on numbers: with IRQ high as many as there is room for, and with IRQ low one. With one call for the

@@ -38,7 +38,7 @@ fn hand_over(
             *steps = ended.steps;
             *place = 0;
             hand_back(0 < ended.steps, ended.machine, registers, cycles);
-            reason.number()
+            u8::from(reason)
         }
         Guarded::Halted(halt) => {
             let touch = halt.touch;

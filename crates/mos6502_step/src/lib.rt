@@ -39,7 +39,7 @@ pub extern "C" fn mos6502_step(
     let ended = turned.ended;
     let reason = ended.reason;
     hand_back(0 < ended.steps, ended.machine, registers, cycles);
-    reason.number()
+    u8::from(reason)
 }
 
 // The version of these functions. A host asks for it by this name, so that an older archive does not link, and the linker says

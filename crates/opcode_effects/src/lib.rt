@@ -44,13 +44,6 @@ pub enum Row {
     NotAnOpcode,
 }
 
-// What an opcode does, or that it is not documented.
-#[derive(Clone, Copy)]
-pub enum Dispatched {
-    Performed(Performed),
-    NotAnOpcode,
-}
-
 // What a step of so many cycles takes off the clock: one step less, and its cycles more.
 fn ticks_of(cycles: u8, extra: u8) -> u64
     requires { cycles + extra ≤ 255 }
@@ -73,15 +66,15 @@ fn counted(cycles: u8, effect: Effect) -> Row
 }
 
 // What a row comes to, with the sum or the difference made.
-pub fn finish(row: Row) -> Dispatched
+pub fn finish(row: Row) -> Option<Performed>
     ensures { result ≡ finished row }
 {
     match row {
-        Row::Whole(performed) => Dispatched::Performed(performed),
+        Row::Whole(performed) => Some(performed),
         Row::Adding(pending) => {
             let before = pending.registers;
             let after = add_with_carry(before.kept_apart(), pending.value);
-            Dispatched::Performed(Performed {
+            Some(Performed {
                 registers: after,
                 ticks: pending.ticks,
                 first: pending.first,
@@ -90,12 +83,12 @@ pub fn finish(row: Row) -> Dispatched
         Row::Subtracting(pending) => {
             let before = pending.registers;
             let after = subtract_with_carry(before.kept_apart(), pending.value);
-            Dispatched::Performed(Performed {
+            Some(Performed {
                 registers: after,
                 ticks: pending.ticks,
                 first: pending.first,
             })
         }
-        Row::NotAnOpcode => Dispatched::NotAnOpcode,
+        Row::NotAnOpcode => None,
     }
 }

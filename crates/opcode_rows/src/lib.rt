@@ -8,7 +8,7 @@ ghost use Rattle.manual.specs.Micro.{Gives};
 ghost use Rattle.manual.specs.Stepping.{full_memory};
 ghost use Rattle.opcode_effects.specs.Inner.Performing.{dispatched, finished};
 
-use opcode_effects::{Dispatched, Row, adds, finish, keeps, stores, subtracts};
+use opcode_effects::{Row, adds, finish, keeps, stores, subtracts};
 use opcode_numbers::number::*;
 use registers::Registers;
 
@@ -174,7 +174,7 @@ fn line(opcode: u8, registers: Registers, memory: &mut [u8]) -> Row
 }
 
 // What an opcode does. The compiler puts it into the loop that calls it, if there is one call alone.
-pub fn dispatch(opcode: u8, registers: Registers, memory: &mut [u8]) -> Dispatched
+pub fn dispatch(opcode: u8, registers: Registers, memory: &mut [u8]) -> Option<Performed>
     requires { length memory.old ≡ full_memory }
     ensures { Gives (dispatched (decoded opcode) registers) memory.old result memory.new }
 {

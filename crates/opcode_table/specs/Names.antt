@@ -1,5 +1,6 @@
 -- The 56 names (manual, appendices).
-use Rattle.std.specs.Prelude.{ℕ, List}
+use Rattle.std.specs.Prelude.{ℕ, List, Option, Some, None}
+use Rattle.instruction.specs.declared.Entry.{Entry}
 use Rattle.laws.specs.Characters.{characters}
 use Rattle.instruction.specs.declared.Instruction.{Instruction}
 use Rattle.instruction.specs.declared.Instruction.TheVariants.{Read, Store, Modify, Branch, Internal, BRK, JMP, JSR, PHA, PHP, PLA, PLP, RTI, RTS}
@@ -8,8 +9,6 @@ use Rattle.instruction.specs.declared.StoreOperation.TheVariants.{STA, STX, STY}
 use Rattle.instruction.specs.declared.ModifyOperation.TheVariants.{ASL, DEC, INC, LSR, ROL, ROR}
 use Rattle.instruction.specs.declared.BranchOperation.TheVariants.{BCC, BCS, BEQ, BMI, BNE, BPL, BVC, BVS}
 use Rattle.instruction.specs.declared.InternalOperation.TheVariants.{CLC, CLD, CLI, CLV, DEX, DEY, INX, INY, NOP, SEC, SED, SEI, TAX, TAY, TSX, TXA, TXS, TYA}
-use Rattle.instruction.specs.declared.Decoded.{Decoded}
-use Rattle.instruction.specs.declared.Decoded.TheVariants.{Defined, Undefined}
 
 unfoldable pub mnemonic : Instruction → List ℕ
 mnemonic (Read ADC) = characters "ADC"
@@ -70,6 +69,6 @@ mnemonic (Internal TXS) = characters "TXS"
 mnemonic (Internal TYA) = characters "TYA"
 
 -- the name of what an opcode means; a byte that is no opcode shows as `???`
-abbrev pub name_of : Decoded → List ℕ
-name_of Undefined = characters "???"
-name_of (Defined e) = mnemonic e.instruction
+abbrev pub name_of : Option Entry → List ℕ
+name_of None = characters "???"
+name_of (Some e) = mnemonic e.instruction

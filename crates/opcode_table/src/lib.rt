@@ -5,7 +5,7 @@ ghost use Rattle.std.specs.Prelude.{◌≡◌};
 ghost use Rattle.instruction.specs.Opcodes.{decoded};
 ghost use Rattle.opcode_table.specs.Inner.Arrays.{IsTable};
 
-use instruction::{Decoded, Entry};
+use instruction::Entry;
 use opcode_numbers::{mode_at, operation_at};
 
 mod names; // names.rt: the names of the operations
@@ -90,7 +90,7 @@ pub(crate) fn table() -> OpcodeTable
 
 // What an opcode means.
 #[tactic(auto, using(crate::specs::Theorems::Arrays::entry_defined, crate::specs::Theorems::Arrays::entry_undefined))]
-pub fn decode(opcode: u8) -> Decoded
+pub fn decode(opcode: u8) -> Option<Entry>
     ensures { result ≡ decoded opcode }
 {
     let opcodes = table();
@@ -100,12 +100,12 @@ pub fn decode(opcode: u8) -> Decoded
     let at = opcode as usize;
     let number = operations[at];
     if number < 56 {
-        Decoded::Defined(Entry {
+        Some(Entry {
             instruction: operation_at(number),
             mode: mode_at(modes[at]),
             cycles: cycles[at],
         })
     } else {
-        Decoded::Undefined
+        None
     }
 }

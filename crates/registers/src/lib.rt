@@ -6,7 +6,7 @@ ghost use Rattle.registers.specs.State.{status_of, registers_of, set_a, set_x, s
 ghost use Rattle.registers.specs.StatusByte.{bit, status_byte, pushed_byte, served_byte, pulled_status};
 
 // The processor status: the six flags N V D I Z C.
-#[derive(Clone, Copy)]
+#[derive(Clone, Copy, PartialEq, Eq)]
 pub struct Status {
     pub negative: bool,
     pub overflow: bool,
@@ -17,10 +17,10 @@ pub struct Status {
 }
 
 // The low byte of the stack's next free address; its page is 01.
-#[derive(Clone, Copy)]
+#[derive(Clone, Copy, PartialEq, Eq)]
 pub struct StackPointer(pub u8);
 
-#[derive(Clone, Copy)]
+#[derive(Clone, Copy, PartialEq, Eq)]
 pub struct Registers {
     pub accumulator: u8,
     pub x: u8,
@@ -51,12 +51,12 @@ impl Status {
         ensures { result ≡ status_of negative overflow decimal disable zero carry }
     {
         Status {
-            negative: negative,
-            overflow: overflow,
-            decimal: decimal,
-            disable: disable,
-            zero: zero,
-            carry: carry,
+            negative,
+            overflow,
+            decimal,
+            disable,
+            zero,
+            carry,
         }
     }
 
@@ -164,14 +164,14 @@ impl StackPointer {
     pub fn increment(self) -> StackPointer
         ensures { result.0 ≡ up self.0 }
     {
-        StackPointer(std::num::wrapping_add_u8(self.0, 1))
+        StackPointer(self.0.wrapping_add(1))
     }
 
     // One less, modulo 256: after a push.
     pub fn decrement(self) -> StackPointer
         ensures { result.0 ≡ down self.0 }
     {
-        StackPointer(std::num::wrapping_add_u8(self.0, 255))
+        StackPointer(self.0.wrapping_sub(1))
     }
 }
 
@@ -180,14 +180,13 @@ impl Registers {
     pub fn new(accumulator: u8, x: u8, y: u8, stack: u8, counter: u16, status: Status) -> Registers
         ensures { result ≡ registers_of accumulator x y stack counter status }
     {
-        let pointer = StackPointer(stack);
         Registers {
-            accumulator: accumulator,
-            x: x,
-            y: y,
-            stack: pointer,
-            counter: counter,
-            status: status,
+            accumulator,
+            x,
+            y,
+            stack: StackPointer(stack),
+            counter,
+            status,
         }
     }
 

@@ -17,7 +17,7 @@ fn put_fields(out: &mut [u8], at: usize, ended: Ended) -> usize
 {
     let reason = ended.reason;
     let machine = ended.machine;
-    let after_reason = put_decimal(out, at, reason.number() as u64);
+    let after_reason = put_decimal(out, at, u8::from(reason) as u64);
     let after_steps = put_spaced_decimal(out, after_reason, ended.steps);
     let after_space = put_byte(out, after_steps, b' ');
     let after_machine = put_machine(out, after_space, machine);
@@ -30,7 +30,7 @@ pub fn put_line(out: &mut [u8], at: usize, ended: Ended) -> usize
     ensures upper_bound { result ≤ at + longest_line }
 {
     let reason = ended.reason;
-    if reason.number() == MEMORY_NOT_FULL {
+    if u8::from(reason) == MEMORY_NOT_FULL {
         return put_text(out, at, b"1\n");
     }
     put_fields(out, at, ended)

@@ -2,12 +2,12 @@
 #![tactic(auto)]
 
 ghost use Rattle.std.specs.Prelude.{◌+◌, ◌≤◌, ◌≡◌};
-ghost use Rattle.text_writing.specs.Written.{Wrote};
+ghost use Rattle.text_writing.specs.Written.{Writes};
 ghost use Rattle.statuses.specs.Statuses.{reached as Statuses·reached, end_status, check_status, rescue_status, log_status, first_of, status_line, longest_status};
 
 use laws::answers::*;
-use manual::{Ended, Reason};
-use text_writing::{put_byte, put_decimal, put_text};
+use manual::{Ended, FULL_MEMORY};
+use text_writing::Writer;
 
 // The statuses that are no answer number.
 pub const STILL_RUNNING: u8 = 20;
@@ -33,17 +33,12 @@ pub enum Goal {
 pub fn reached(goal: Goal, ended: Ended) -> bool
     ensures { result ≡ Statuses·reached goal ended }
 {
-    let reason = ended.reason;
-    let number = reason.number();
     match goal {
         Goal::Unnamed => false,
         Goal::At(address) => {
-            if number != NOT_AN_OPCODE {
-                return false;
-            }
-            ended.machine.registers.counter == address
+            u8::from(ended.reason) == NOT_AN_OPCODE && ended.machine.registers.counter == address
         }
-        Goal::AllSteps => number == NOT_REFUSED,
+        Goal::AllSteps => ended.reason.is_made(),
     }
 }
 
@@ -55,25 +50,17 @@ pub fn end_status(goal: Goal, ended: Ended) -> u8
     if reached(goal, ended) {
         return 0;
     }
-    let reason = ended.reason;
-    let number = reason.number();
-    if number == NOT_REFUSED {
-        return STILL_RUNNING;
+    match u8::from(ended.reason) {
+        NOT_REFUSED => STILL_RUNNING,
+        number => number,
     }
-    number
 }
 
 // The status of a list that was checked: 0 if it has a line and no fault.
 pub fn check_status(lines: u64, faults: u64) -> u8
     ensures { result ≡ check_status lines faults }
 {
-    if lines == 0 {
-        return 1;
-    }
-    if faults == 0 {
-        return 0;
-    }
-    1
+    (lines == 0 || faults != 0) as u8
 }
 
 // The status of a tape that was rescued: 0 only if nothing was dropped and a reader takes the old tape too. Otherwise the
@@ -95,7 +82,7 @@ pub fn rescue_status(answer: u8, dropped: u64, read: u8) -> u8
 pub fn log_status(size: usize, answer: u8, lines: u64) -> u8
     ensures { result ≡ log_status size answer lines }
 {
-    if size != 65536 {
+    if size != FULL_MEMORY {
         return MEMORY_NOT_FULL;
     }
     if answer != NOT_REFUSED {
@@ -121,11 +108,11 @@ pub fn first_of(before: u8, now: u8) -> u8
 pub const LONGEST_STATUS: usize = 16;
 
 // The line by which a program hands its status over.
-pub fn put_status(out: &mut [u8], at: usize, status: u8) -> usize
-    ensures wrote { Wrote out.old at (status_line status) out.new result }
-    ensures upper_bound { result ≤ at + longest_status }
+pub fn put_status(out: &mut Writer, status: u8)
+    ensures wrote { Writes out.old (status_line status) out.new }
+    ensures upper_bound { out.new.at ≤ out.old.at + longest_status }
 {
-    let after_word = put_text(out, at, b"status ");
-    let after_number = put_decimal(out, after_word, status as u64);
-    put_byte(out, after_number, b'\n')
+    out.put_text(b"status ");
+    out.put_decimal(status as u64);
+    out.put_byte(b'\n');
 }

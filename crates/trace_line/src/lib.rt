@@ -7,14 +7,14 @@
 #![tactic(auto)]
 
 ghost use Rattle.std.specs.Prelude.{◌+◌, ◌≤◌, ◌≡◌, drop};
-ghost use Rattle.text_writing.specs.Written.{Wrote};
+ghost use Rattle.text_writing.specs.Written.{Writes};
 ghost use Rattle.trace_line.specs.Lines.{line_text, longest_line};
 ghost use Rattle.trace_line.specs.Fields.{cycles_of, field_at, fields_of, state_of, spelled_by, line_of, line_from};
 
 use manual::Machine;
 use registers::{Registers, Status};
 use text_reading::{Byte, Count, NOWHERE, read_byte, read_count, read_mark, read_word, rest};
-use text_writing::put_byte;
+use text_writing::Writer;
 use trace_fields::put_machine;
 
 // The seven numbers of a line, and where the text goes on.
@@ -141,10 +141,10 @@ pub fn read_state(text: &[u8], at: usize) -> Line
 pub const LONGEST_LINE: usize = 41;
 
 // Writes the line of a state.
-pub fn put_line(out: &mut [u8], at: usize, machine: Machine) -> usize
-    ensures wrote { Wrote out.old at (line_text machine) out.new result }
-    ensures upper_bound { result ≤ at + longest_line }
+pub fn put_line(out: &mut Writer, machine: Machine)
+    ensures wrote { Writes out.old (line_text machine) out.new }
+    ensures upper_bound { out.new.at ≤ out.old.at + longest_line }
 {
-    let next = put_machine(out, at, machine);
-    put_byte(out, next, b'\n')
+    put_machine(out, machine);
+    out.put_byte(b'\n');
 }

@@ -9,14 +9,14 @@ returns-then-start-gt-HIGHEST_COUNT c = turn_late _ _ _ _ c.requires.2.0 c.if-st
 
 pub serve_line-requires : goal.serve_line-requires
 serve_line-requires c =
-    (c.requires.0, vector_within c.args.lines c.args.start _ (sym c.due-waiting.ensures ∙ c.in-Through.is), c.if-start-gt-HIGHEST_COUNT.false)
+    (c.requires.0, vector_within c.args.lines c.args.start _ (sym c.due-waiting.ensures ∙ c.in-Some.is), c.if-start-gt-HIGHEST_COUNT.false)
 
 pub walk-requires : goal.walk-requires
 walk-requires c = (c.requires.0, c.requires.2.0, c.requires.2.1, c.requires.2.2 c.if-start-gt-HIGHEST_COUNT.false)
 
-pub returns-in-Through : goal.returns-in-Through
-returns-in-Through c =
-    turn_serves _ _ _ _ _ (sym c.due-waiting.ensures ∙ c.in-Through.is) c.if-start-gt-HIGHEST_COUNT.false ∙ c.serve_line.ensures
+pub returns-in-Some : goal.returns-in-Some
+returns-in-Some c =
+    turn_serves _ _ _ _ _ (sym c.due-waiting.ensures ∙ c.in-Some.is) c.if-start-gt-HIGHEST_COUNT.false ∙ c.serve_line.ensures
 
-pub returns-in-Quiet : goal.returns-in-Quiet
-returns-in-Quiet c = turn_walks _ _ _ (sym c.due-waiting.ensures ∙ c.in-Quiet.is) _ c.requires.1 ∙ c.walk.ensures
+pub returns-in-None : goal.returns-in-None
+returns-in-None c = turn_walks _ _ _ (sym c.due-waiting.ensures ∙ c.in-None.is) _ c.requires.1 ∙ c.walk.ensures

@@ -1,10 +1,8 @@
 -- A turn: the service of a line, or as many steps as no line can become due between; and a run by its turns.
-use Rattle.std.specs.Prelude.{◌≡◌, ℕ, ◌+◌, ◌-◌, ◌*◌, ◌/◌, ◌<◌, ◌≤◌, Bool, true, cond, ◌⊎◌, nat_lt}
+use Rattle.std.specs.Prelude.{◌≡◌, ℕ, ◌+◌, ◌-◌, ◌*◌, ◌/◌, ◌<◌, ◌≤◌, Bool, true, cond, ◌⊎◌, nat_lt, Option, Some, None}
 use Rattle.registers.specs.declared.Registers.{Registers}
 use Rattle.manual.specs.declared.Lines.{Lines}
 use Rattle.manual.specs.declared.Machine.{Machine}
-use Rattle.manual.specs.declared.Due.{Due}
-use Rattle.manual.specs.declared.Due.TheVariants.{Through, Quiet}
 use Rattle.manual.specs.declared.Ended.{Ended}
 use Rattle.manual.specs.declared.Reason.TheVariants.{Made}
 use Rattle.manual.specs.Micro.{Micro, done, ◌>>=◌}
@@ -26,9 +24,9 @@ abbrev pub recording : Lines → Travelled → Travelled
 recording lines w = travelled w.first (ended w.ended.reason w.ended.steps (levelled lines.nmi w.ended.machine))
 
 -- a line is served by one step
-abbrev pub stretch : Due → ℕ → ℕ
-stretch (Through vector) n = 1
-stretch Quiet n = n
+abbrev pub stretch : Option ℕ → ℕ → ℕ
+stretch (Some vector) n = 1
+stretch None n = n
 
 unfoldable pub turning : ℕ → Lines → Machine → Micro Travelled
 turning n lines s = do

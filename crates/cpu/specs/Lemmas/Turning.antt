@@ -1,13 +1,11 @@
 -- Laws of Turning.antt.
-use Rattle.std.specs.Prelude.{◌≡◌, ℕ, zero, suc, ◌+◌, ◌-◌, ◌/◌, ◌<◌, ◌≤◌, Bool, true, false, cond, ◌⊎◌, List, nat_lt, refl}
+use Rattle.std.specs.Prelude.{◌≡◌, ℕ, zero, suc, ◌+◌, ◌-◌, ◌/◌, ◌<◌, ◌≤◌, Bool, true, false, cond, ◌⊎◌, List, nat_lt, refl, Option, Some, None}
 use Rattle.std.proofs.Common.{ap, ◌∙◌, inl, inr, arith, lt-ltb, le-ltb}
 use Rattle.std.proofs.Math.Path.{sym}
 use Rattle.std.proofs.Math.Decide.{dec_lt}
 use Rattle.registers.specs.declared.Registers.{Registers}
 use Rattle.manual.specs.declared.Lines.{Lines}
 use Rattle.manual.specs.declared.Machine.{Machine}
-use Rattle.manual.specs.declared.Due.{Due}
-use Rattle.manual.specs.declared.Due.TheVariants.{Through, Quiet}
 use Rattle.manual.specs.declared.Ended.{Ended}
 use Rattle.manual.specs.declared.Reason.TheVariants.{Made, NoCycleRoom}
 use Rattle.manual.specs.Micro.{exec, Gives}
@@ -34,12 +32,12 @@ unfolding turning
 turn_gives n lines s m j e g = rw e (then (travelling j 0 0 lines s) _ m g refl)
 
 -- if a line is due
-one_of : (d : Due) (n vector : ℕ) → d ≡ Through vector → stretch d n ≡ 1
-one_of (Through v) n vector e = refl
-one_of Quiet n vector e = absurd (not_quiet Quiet vector refl e)
+one_of : (d : Option ℕ) (n vector : ℕ) → d ≡ Some vector → stretch d n ≡ 1
+one_of (Some v) n vector e = refl
+one_of None n vector e = absurd (not_quiet None vector refl e)
 
 -- a line that is due is served
-pub turn_serves : (n : ℕ) (lines : Lines) (s : Machine) (m : List ℕ) (vector : ℕ) → due lines s ≡ Through vector → s.cycles ≤ highest_count
+pub turn_serves : (n : ℕ) (lines : Lines) (s : Machine) (m : List ℕ) (vector : ℕ) → due lines s ≡ Some vector → s.cycles ≤ highest_count
     → exec (turning n lines s) m ≡ exec (serving vector s.registers s.cycles lines.nmi) m
 unfolding serving
 turn_serves n lines s m vector e h =
@@ -49,9 +47,9 @@ turn_serves n lines s m vector e h =
     ∙ sym (exec_bind (served vector s.registers) _ m)
 
 -- if there is no room, no step is made
-stretch_some : (d : Due) (n : ℕ) → 0 < n → stretch d n ≡ suc (stretch d n - 1)
-stretch_some (Through vector) n l = omega arith
-stretch_some Quiet n l = omega arith
+stretch_some : (d : Option ℕ) (n : ℕ) → 0 < n → stretch d n ≡ suc (stretch d n - 1)
+stretch_some (Some vector) n l = omega arith
+stretch_some None n l = omega arith
 
 pub turn_late : (n : ℕ) (lines : Lines) (s : Machine) (m : List ℕ) → 0 < n → highest_count < s.cycles
     → Gives (turning n lines s) m (travelled 0 (ended NoCycleRoom 0 (levelled lines.nmi s))) m
@@ -59,7 +57,7 @@ turn_late n lines s m l h =
     turn_gives n lines s m _ (stretch_some (due lines s) n l) (travel_halts lines s m _ m (step_late lines s m h) (stretch (due lines s) n - 1) 0 0 refl)
 
 -- nothing is due with IRQ high and a level of NMI that stays
-pub raised_quiet : (nmi : Bool) (r : Registers) (cycles : ℕ) → due (raised nmi) (machine_of r cycles nmi) ≡ Quiet
+pub raised_quiet : (nmi : Bool) (r : Registers) (cycles : ℕ) → due (raised nmi) (machine_of r cycles nmi) ≡ None
 raised_quiet nmi r cycles = due_none (raised nmi) (machine_of r cycles nmi) (high_and_low nmi) refl
 
 level_of : Travelled × List ℕ → Bool
@@ -92,7 +90,7 @@ recorded_so lines w e =
 was_high : (lines : Lines) → lines.irq ≡ true → lines ≡ raised lines.nmi
 was_high lines e = ap (λ (irq : Bool). record { irq = irq; nmi = lines.nmi }) e
 
-module _ (lines : Lines) (s : Machine) (m : List ℕ) (e : due lines s ≡ Quiet) where
+module _ (lines : Lines) (s : Machine) (m : List ℕ) (e : due lines s ≡ None) where
   abbrev nmi : Bool
   nmi = lines.nmi
 
@@ -169,9 +167,9 @@ module _ (n : ℕ) (lines : Lines) (s : Machine) (m : List ℕ) {r : Travelled} 
       (sym (settles size lines s m (run_ends size lines s m {q = w.0.ended} {m' = w.1} (travel_run size 0 0 lines s m {w = w.0} {m' = w.1} refl))))
       ∙ ap (λ (v : Travelled × List ℕ). (travelled v.0.first (settled s v.0.ended), v.1)) told
 
-pub one_step_lem : (d : Due) → stretch d 1 ≡ 1
-one_step_lem (Through vector) = refl
-one_step_lem Quiet = refl
+pub one_step_lem : (d : Option ℕ) → stretch d 1 ≡ 1
+one_step_lem (Some vector) = refl
+one_step_lem None = refl
 
 -- a turn of one is a step
 pub turn_step : (lines : Lines) (s : Machine) (m : List ℕ) {r : Travelled} {m' : List ℕ} → Gives (turning 1 lines s) m r m'
@@ -229,9 +227,9 @@ module _ (lines : Lines) (s : Machine) (n j : ℕ) (l : 0 < j) (u : j ≤ n) whe
   far = stretch (due lines s) j
 
   -- it is some of them, and no more
-  pub some : (d : Due) → (0 < stretch d j) × (stretch d j ≤ n)
-  some (Through vector) = (omega arith, omega arith)
-  some Quiet = (l, u)
+  pub some : (d : Option ℕ) → (0 < stretch d j) × (stretch d j ≤ n)
+  some (Some vector) = (omega arith, omega arith)
+  some None = (l, u)
 
   module _ (m : List ℕ) {r : Travelled} {m' : List ℕ} (g : Gives (turning j lines s) m r m') where
     abbrev q : Ended

@@ -13,18 +13,18 @@ returns-then-machine-gt-HIGHEST_COUNT c =
 pub reads_through-requires : goal.reads_through-requires
 reads_through-requires c =
     let a = c.args in
-    vector_within a.lines a.machine _ (sym c.due.ensures ∙ c.in-Through.is)
+    vector_within a.lines a.machine _ (sym c.due.ensures ∙ c.in-Some.is)
 
-pub returns-in-Through : goal.returns-in-Through
-returns-in-Through c =
+pub returns-in-Some : goal.returns-in-Some
+returns-in-Some c =
     let a = c.args in
     c.reads_through.ensures
     ∙ ap footprint_of
-    (sym (due_list a.lines a.machine a.memory.now _ c.if-machine-gt-HIGHEST_COUNT.false (sym c.due.ensures ∙ c.in-Through.is)))
+    (sym (due_list a.lines a.machine a.memory.now _ c.if-machine-gt-HIGHEST_COUNT.false (sym c.due.ensures ∙ c.in-Some.is)))
 
-pub returns-in-Quiet : goal.returns-in-Quiet
-returns-in-Quiet c =
+pub returns-in-None : goal.returns-in-None
+returns-in-None c =
     let a = c.args in
     c.reads_quiet.ensures
     ∙ ap footprint_of
-    (sym (due_list a.lines a.machine a.memory.now _ c.if-machine-gt-HIGHEST_COUNT.false (sym c.due.ensures ∙ c.in-Quiet.is)))
+    (sym (due_list a.lines a.machine a.memory.now _ c.if-machine-gt-HIGHEST_COUNT.false (sym c.due.ensures ∙ c.in-None.is)))

@@ -1,12 +1,12 @@
+use Rattle.std.specs.Prelude.{Option, None}
+use Rattle.opcode_effects.specs.declared.Performed.{Performed}
 use Rattle.std.proofs.Common.{◌≡◌, ℕ, suc, ◌+◌, ◌-◌, ◌*◌, ◌%◌, ◌<◌, ◌≤◌, Bool, cond, ltb, List, length, sym, refl, ap, ◌∙◌, subst, arith, le-ltb, lt-ltb}
 use Rattle.registers.specs.declared.Registers.{Registers}
 use Rattle.manual.specs.declared.Lines.{Lines}
-use Rattle.manual.specs.declared.Due.TheVariants.{Quiet}
 use Rattle.manual.specs.Micro.{Gives}
 use Rattle.manual.specs.Interrupts.{due}
 use Rattle.manual.specs.Outcomes.{machine_of}
 use Rattle.manual.specs.Stepping.{full_memory, highest_count, step_full}
-use Rattle.opcode_effects.specs.declared.Dispatched.{Dispatched}
 use Rattle.opcode_effects.specs.Inner.Performing.{ticks_of}
 use Rattle.cpu.specs.Lemmas.Clock.{steps_in, cycles_in, no_step, last_cycles, less_steps, more_cycles, less}
 use Rattle.cpu.specs.Theorems.Steps.{step_by, StepsBy, step_by_lem}
@@ -92,102 +92,102 @@ dispatch-requires c = c.loop-steps.invariant.2
 pub overflow_add-cycles-then-clock-performed : goal.overflow_add-cycles-then-clock-performed
 overflow_add-cycles-then-clock-performed c =
     let room : c.args.start.cycles + cycles_in c.loop-steps.clock ≤ highest_count = omega (arith, c.loop-steps.invariant.1, c.requires.2.2 c.if-start-gt-HIGHEST_COUNT.false) in
-    let quiet : due (raised c.args.nmi) (machine_of c.loop-steps.registers (c.args.start.cycles + cycles_in c.loop-steps.clock) (cond (ltb c.args.made (c.args.bound - 1 - steps_in c.loop-steps.clock)) c.args.nmi c.args.start.nmi)) ≡ Quiet = held_quiet c.args.nmi (machine_of c.loop-steps.registers (c.args.start.cycles + cycles_in c.loop-steps.clock) (cond (ltb c.args.made (c.args.bound - 1 - steps_in c.loop-steps.clock)) c.args.nmi c.args.start.nmi)) (level_held (ltb c.args.made (c.args.bound - 1 - steps_in c.loop-steps.clock)) c.args.start.nmi c.args.nmi c.requires.1) in
+    let quiet : due (raised c.args.nmi) (machine_of c.loop-steps.registers (c.args.start.cycles + cycles_in c.loop-steps.clock) (cond (ltb c.args.made (c.args.bound - 1 - steps_in c.loop-steps.clock)) c.args.nmi c.args.start.nmi)) ≡ None = held_quiet c.args.nmi (machine_of c.loop-steps.registers (c.args.start.cycles + cycles_in c.loop-steps.clock) (cond (ltb c.args.made (c.args.bound - 1 - steps_in c.loop-steps.clock)) c.args.nmi c.args.start.nmi)) (level_held (ltb c.args.made (c.args.bound - 1 - steps_in c.loop-steps.clock)) c.args.start.nmi c.args.nmi c.requires.1) in
     let next : StepsBy (raised c.args.nmi) (machine_of c.loop-steps.registers (c.args.start.cycles + cycles_in c.loop-steps.clock) (cond (ltb c.args.made (c.args.bound - 1 - steps_in c.loop-steps.clock)) c.args.nmi c.args.start.nmi)) c.loop-steps.memory c.dispatch.result c.dispatch.new.memory = step_by_lem _ _ _ room quiet _ c.get_byte-opcode.ensures c.dispatch.ensures in
-    let few : ticks_of c.in-Performed.performed.ticks ≤ 7 = rw c.in-Performed.is at next.few in
-    let within : c.in-Performed.performed.ticks ≤ 268435456 = rw c.in-Performed.is at next.within in
+    let few : ticks_of c.in-Some.performed.ticks ≤ 7 = rw c.in-Some.is at next.few in
+    let within : c.in-Some.performed.ticks ≤ 268435456 = rw c.in-Some.is at next.within in
     let small : c.loop-steps.clock < 18446744073709551616 = omega (arith, c.loop-steps.invariant.0, c.requires.2.1) in
     let small-then : c.wrapping_sub_u64-next.result < 18446744073709551616 = omega arith in
-    let spent : (lt : c.loop-steps.clock < c.in-Performed.performed.ticks) → (c.wrapping_sub_u64-next.result + 268435456) % 18446744073709551616 ≡ cycles_in c.loop-steps.clock + ticks_of c.in-Performed.performed.ticks = λ lt. last_cycles (c.args.bound - c.args.made) c.loop-steps.clock c.in-Performed.performed.ticks c.wrapping_sub_u64-next.result c.requires.2.1 c.loop-steps.invariant.1 few within small small-then c.wrapping_sub_u64-next.ensures.value lt in
+    let spent : (lt : c.loop-steps.clock < c.in-Some.performed.ticks) → (c.wrapping_sub_u64-next.result + 268435456) % 18446744073709551616 ≡ cycles_in c.loop-steps.clock + ticks_of c.in-Some.performed.ticks = λ lt. last_cycles (c.args.bound - c.args.made) c.loop-steps.clock c.in-Some.performed.ticks c.wrapping_sub_u64-next.result c.requires.2.1 c.loop-steps.invariant.1 few within small small-then c.wrapping_sub_u64-next.ensures.value lt in
     omega (arith, spent c.if-clock-performed.true, c.wrapping_add_u64.ensures.value, few, room)
 
 pub returns-then-clock-performed : goal.returns-then-clock-performed
 returns-then-clock-performed c =
-    let quiet : due (raised c.args.nmi) (machine_of c.loop-steps.registers (c.args.start.cycles + cycles_in c.loop-steps.clock) (cond (ltb c.args.made (c.args.bound - 1 - steps_in c.loop-steps.clock)) c.args.nmi c.args.start.nmi)) ≡ Quiet = held_quiet c.args.nmi (machine_of c.loop-steps.registers (c.args.start.cycles + cycles_in c.loop-steps.clock) (cond (ltb c.args.made (c.args.bound - 1 - steps_in c.loop-steps.clock)) c.args.nmi c.args.start.nmi)) (level_held (ltb c.args.made (c.args.bound - 1 - steps_in c.loop-steps.clock)) c.args.start.nmi c.args.nmi c.requires.1) in
+    let quiet : due (raised c.args.nmi) (machine_of c.loop-steps.registers (c.args.start.cycles + cycles_in c.loop-steps.clock) (cond (ltb c.args.made (c.args.bound - 1 - steps_in c.loop-steps.clock)) c.args.nmi c.args.start.nmi)) ≡ None = held_quiet c.args.nmi (machine_of c.loop-steps.registers (c.args.start.cycles + cycles_in c.loop-steps.clock) (cond (ltb c.args.made (c.args.bound - 1 - steps_in c.loop-steps.clock)) c.args.nmi c.args.start.nmi)) (level_held (ltb c.args.made (c.args.bound - 1 - steps_in c.loop-steps.clock)) c.args.start.nmi c.args.nmi c.requires.1) in
     let room : c.args.start.cycles + cycles_in c.loop-steps.clock ≤ highest_count = omega (arith, c.loop-steps.invariant.1, c.requires.2.2 c.if-start-gt-HIGHEST_COUNT.false) in
     let unseen : ahead_of (in_map c.args.reads.now) (in_map c.args.stores.now) (raised c.args.nmi) (machine_of c.loop-steps.registers (c.args.start.cycles + cycles_in c.loop-steps.clock) (cond (ltb c.args.made (c.args.bound - 1 - steps_in c.loop-steps.clock)) c.args.nmi c.args.start.nmi)) c.loop-steps.memory ≡ Ahead.Nothing = elim c.if-may_touch.branch [ then-may_touch+in_default w ↦ sym (rw w.kept-left.ensures at w.look_ahead-ahead.ensures) ∙ w.in_default.is | else-may_touch w ↦ none_ahead (in_map c.args.reads.now) (in_map c.args.stores.now) (raised c.args.nmi) (machine_of c.loop-steps.registers (c.args.start.cycles + cycles_in c.loop-steps.clock) (cond (ltb c.args.made (c.args.bound - 1 - steps_in c.loop-steps.clock)) c.args.nmi c.args.start.nmi)) c.loop-steps.memory room quiet (c.may_touch.ensures w.if-may_touch.false) ] in
     let next : StepsBy (raised c.args.nmi) (machine_of c.loop-steps.registers (c.args.start.cycles + cycles_in c.loop-steps.clock) (cond (ltb c.args.made (c.args.bound - 1 - steps_in c.loop-steps.clock)) c.args.nmi c.args.start.nmi)) c.loop-steps.memory c.dispatch.result c.dispatch.new.memory = step_by_lem _ _ _ room quiet _ c.get_byte-opcode.ensures c.dispatch.ensures in
-    let by-variant : (q : Dispatched) → c.dispatch.result ≡ q → Gives (step_full (raised c.args.nmi) (machine_of c.loop-steps.registers (c.args.start.cycles + cycles_in c.loop-steps.clock) (cond (ltb c.args.made (c.args.bound - 1 - steps_in c.loop-steps.clock)) c.args.nmi c.args.start.nmi))) c.loop-steps.memory (step_by (raised c.args.nmi) (machine_of c.loop-steps.registers (c.args.start.cycles + cycles_in c.loop-steps.clock) (cond (ltb c.args.made (c.args.bound - 1 - steps_in c.loop-steps.clock)) c.args.nmi c.args.start.nmi)) q) c.dispatch.new.memory = λ q e. subst (λ (q : Dispatched). Gives (step_full (raised c.args.nmi) (machine_of c.loop-steps.registers (c.args.start.cycles + cycles_in c.loop-steps.clock) (cond (ltb c.args.made (c.args.bound - 1 - steps_in c.loop-steps.clock)) c.args.nmi c.args.start.nmi))) c.loop-steps.memory (step_by (raised c.args.nmi) (machine_of c.loop-steps.registers (c.args.start.cycles + cycles_in c.loop-steps.clock) (cond (ltb c.args.made (c.args.bound - 1 - steps_in c.loop-steps.clock)) c.args.nmi c.args.start.nmi)) q) c.dispatch.new.memory) e next.gives in
-    let after : guarded_full (in_map c.args.reads.now) (in_map c.args.stores.now) (suc (steps_in c.loop-steps.clock)) (c.args.bound - 1 - steps_in c.loop-steps.clock) (raised c.args.nmi) (machine_of c.loop-steps.registers (c.args.start.cycles + cycles_in c.loop-steps.clock) (cond (ltb c.args.made (c.args.bound - 1 - steps_in c.loop-steps.clock)) c.args.nmi c.args.start.nmi)) c.loop-steps.memory ≡ guarded_full (in_map c.args.reads.now) (in_map c.args.stores.now) (steps_in c.loop-steps.clock) ((c.args.bound - 1 - steps_in c.loop-steps.clock) + 1) (raised c.args.nmi) (machine_of c.in-Performed.performed.registers (c.args.start.cycles + cycles_in c.loop-steps.clock + ticks_of c.in-Performed.performed.ticks) c.args.nmi) c.dispatch.new.memory = guarded_goes_on (in_map c.args.reads.now) (in_map c.args.stores.now) (steps_in c.loop-steps.clock) (c.args.bound - 1 - steps_in c.loop-steps.clock) (raised c.args.nmi) (machine_of c.loop-steps.registers (c.args.start.cycles + cycles_in c.loop-steps.clock) (cond (ltb c.args.made (c.args.bound - 1 - steps_in c.loop-steps.clock)) c.args.nmi c.args.start.nmi)) c.loop-steps.memory _ _ unseen (by-variant _ c.in-Performed.is) refl in
-    let few : ticks_of c.in-Performed.performed.ticks ≤ 7 = rw c.in-Performed.is at next.few in
-    let within : c.in-Performed.performed.ticks ≤ 268435456 = rw c.in-Performed.is at next.within in
+    let by-variant : (q : Option Performed) → c.dispatch.result ≡ q → Gives (step_full (raised c.args.nmi) (machine_of c.loop-steps.registers (c.args.start.cycles + cycles_in c.loop-steps.clock) (cond (ltb c.args.made (c.args.bound - 1 - steps_in c.loop-steps.clock)) c.args.nmi c.args.start.nmi))) c.loop-steps.memory (step_by (raised c.args.nmi) (machine_of c.loop-steps.registers (c.args.start.cycles + cycles_in c.loop-steps.clock) (cond (ltb c.args.made (c.args.bound - 1 - steps_in c.loop-steps.clock)) c.args.nmi c.args.start.nmi)) q) c.dispatch.new.memory = λ q e. subst (λ (q : Option Performed). Gives (step_full (raised c.args.nmi) (machine_of c.loop-steps.registers (c.args.start.cycles + cycles_in c.loop-steps.clock) (cond (ltb c.args.made (c.args.bound - 1 - steps_in c.loop-steps.clock)) c.args.nmi c.args.start.nmi))) c.loop-steps.memory (step_by (raised c.args.nmi) (machine_of c.loop-steps.registers (c.args.start.cycles + cycles_in c.loop-steps.clock) (cond (ltb c.args.made (c.args.bound - 1 - steps_in c.loop-steps.clock)) c.args.nmi c.args.start.nmi)) q) c.dispatch.new.memory) e next.gives in
+    let after : guarded_full (in_map c.args.reads.now) (in_map c.args.stores.now) (suc (steps_in c.loop-steps.clock)) (c.args.bound - 1 - steps_in c.loop-steps.clock) (raised c.args.nmi) (machine_of c.loop-steps.registers (c.args.start.cycles + cycles_in c.loop-steps.clock) (cond (ltb c.args.made (c.args.bound - 1 - steps_in c.loop-steps.clock)) c.args.nmi c.args.start.nmi)) c.loop-steps.memory ≡ guarded_full (in_map c.args.reads.now) (in_map c.args.stores.now) (steps_in c.loop-steps.clock) ((c.args.bound - 1 - steps_in c.loop-steps.clock) + 1) (raised c.args.nmi) (machine_of c.in-Some.performed.registers (c.args.start.cycles + cycles_in c.loop-steps.clock + ticks_of c.in-Some.performed.ticks) c.args.nmi) c.dispatch.new.memory = guarded_goes_on (in_map c.args.reads.now) (in_map c.args.stores.now) (steps_in c.loop-steps.clock) (c.args.bound - 1 - steps_in c.loop-steps.clock) (raised c.args.nmi) (machine_of c.loop-steps.registers (c.args.start.cycles + cycles_in c.loop-steps.clock) (cond (ltb c.args.made (c.args.bound - 1 - steps_in c.loop-steps.clock)) c.args.nmi c.args.start.nmi)) c.loop-steps.memory _ _ unseen (by-variant _ c.in-Some.is) refl in
+    let few : ticks_of c.in-Some.performed.ticks ≤ 7 = rw c.in-Some.is at next.few in
+    let within : c.in-Some.performed.ticks ≤ 268435456 = rw c.in-Some.is at next.within in
     let small : c.loop-steps.clock < 18446744073709551616 = omega (arith, c.loop-steps.invariant.0, c.requires.2.1) in
     let small-then : c.wrapping_sub_u64-next.result < 18446744073709551616 = omega arith in
-    let none : (lt : c.loop-steps.clock < c.in-Performed.performed.ticks) → steps_in c.loop-steps.clock ≡ 0 = λ lt. no_step (c.args.bound - c.args.made) c.loop-steps.clock c.in-Performed.performed.ticks c.wrapping_sub_u64-next.result c.requires.2.1 c.loop-steps.invariant.1 few within small small-then c.wrapping_sub_u64-next.ensures.value lt in
-    let spent : (lt : c.loop-steps.clock < c.in-Performed.performed.ticks) → (c.wrapping_sub_u64-next.result + 268435456) % 18446744073709551616 ≡ cycles_in c.loop-steps.clock + ticks_of c.in-Performed.performed.ticks = λ lt. last_cycles (c.args.bound - c.args.made) c.loop-steps.clock c.in-Performed.performed.ticks c.wrapping_sub_u64-next.result c.requires.2.1 c.loop-steps.invariant.1 few within small small-then c.wrapping_sub_u64-next.ensures.value lt in
+    let none : (lt : c.loop-steps.clock < c.in-Some.performed.ticks) → steps_in c.loop-steps.clock ≡ 0 = λ lt. no_step (c.args.bound - c.args.made) c.loop-steps.clock c.in-Some.performed.ticks c.wrapping_sub_u64-next.result c.requires.2.1 c.loop-steps.invariant.1 few within small small-then c.wrapping_sub_u64-next.ensures.value lt in
+    let spent : (lt : c.loop-steps.clock < c.in-Some.performed.ticks) → (c.wrapping_sub_u64-next.result + 268435456) % 18446744073709551616 ≡ cycles_in c.loop-steps.clock + ticks_of c.in-Some.performed.ticks = λ lt. last_cycles (c.args.bound - c.args.made) c.loop-steps.clock c.in-Some.performed.ticks c.wrapping_sub_u64-next.result c.requires.2.1 c.loop-steps.invariant.1 few within small small-then c.wrapping_sub_u64-next.ensures.value lt in
     let a = c.args in
     let sum = c.wrapping_add_u64.result in
     let lt = c.if-clock-performed.true in
     let all : (c.args.bound - 1 - steps_in c.loop-steps.clock) + 1 ≡ a.bound = omega (arith, none lt, c.requires.2.0) in
-    let cycles : a.start.cycles + cycles_in c.loop-steps.clock + ticks_of c.in-Performed.performed.ticks ≡ a.start.cycles + sum = omega (arith, spent lt, c.wrapping_add_u64.ensures.value) in
+    let cycles : a.start.cycles + cycles_in c.loop-steps.clock + ticks_of c.in-Some.performed.ticks ≡ a.start.cycles + sum = omega (arith, spent lt, c.wrapping_add_u64.ensures.value) in
     rw (c.ran-then-clock-performed.ensures, c.new-left.ensures)
     (sym
     (c.loop-steps.invariant.3
     ∙ after
     ∙ same_at (in_map c.args.reads.now) (in_map c.args.stores.now) _ _ _ (none lt) all cycles refl
-    ∙ ap (λ (r : Registers). guarded_full (in_map c.args.reads.now) (in_map c.args.stores.now) 0 a.bound (raised a.nmi) (machine_of r (a.start.cycles + sum) a.nmi) c.dispatch.new.memory) (sym c.kept_apart-registers-in-Performed.ensures)
+    ∙ ap (λ (r : Registers). guarded_full (in_map c.args.reads.now) (in_map c.args.stores.now) 0 a.bound (raised a.nmi) (machine_of r (a.start.cycles + sum) a.nmi) c.dispatch.new.memory) (sym c.kept_apart-registers-in-Some.ensures)
     ∙ guarded_end (in_map c.args.reads.now) (in_map c.args.stores.now) _ _ _ _))
 
 pub loop-steps-smaller : goal.loop-steps-smaller
 loop-steps-smaller c =
-    let quiet : due (raised c.args.nmi) (machine_of c.loop-steps.registers (c.args.start.cycles + cycles_in c.loop-steps.clock) (cond (ltb c.args.made (c.args.bound - 1 - steps_in c.loop-steps.clock)) c.args.nmi c.args.start.nmi)) ≡ Quiet = held_quiet c.args.nmi (machine_of c.loop-steps.registers (c.args.start.cycles + cycles_in c.loop-steps.clock) (cond (ltb c.args.made (c.args.bound - 1 - steps_in c.loop-steps.clock)) c.args.nmi c.args.start.nmi)) (level_held (ltb c.args.made (c.args.bound - 1 - steps_in c.loop-steps.clock)) c.args.start.nmi c.args.nmi c.requires.1) in
+    let quiet : due (raised c.args.nmi) (machine_of c.loop-steps.registers (c.args.start.cycles + cycles_in c.loop-steps.clock) (cond (ltb c.args.made (c.args.bound - 1 - steps_in c.loop-steps.clock)) c.args.nmi c.args.start.nmi)) ≡ None = held_quiet c.args.nmi (machine_of c.loop-steps.registers (c.args.start.cycles + cycles_in c.loop-steps.clock) (cond (ltb c.args.made (c.args.bound - 1 - steps_in c.loop-steps.clock)) c.args.nmi c.args.start.nmi)) (level_held (ltb c.args.made (c.args.bound - 1 - steps_in c.loop-steps.clock)) c.args.start.nmi c.args.nmi c.requires.1) in
     let room : c.args.start.cycles + cycles_in c.loop-steps.clock ≤ highest_count = omega (arith, c.loop-steps.invariant.1, c.requires.2.2 c.if-start-gt-HIGHEST_COUNT.false) in
     let next : StepsBy (raised c.args.nmi) (machine_of c.loop-steps.registers (c.args.start.cycles + cycles_in c.loop-steps.clock) (cond (ltb c.args.made (c.args.bound - 1 - steps_in c.loop-steps.clock)) c.args.nmi c.args.start.nmi)) c.loop-steps.memory c.dispatch.result c.dispatch.new.memory = step_by_lem _ _ _ room quiet _ c.get_byte-opcode.ensures c.dispatch.ensures in
-    let few : ticks_of c.in-Performed.performed.ticks ≤ 7 = rw c.in-Performed.is at next.few in
-    let within : c.in-Performed.performed.ticks ≤ 268435456 = rw c.in-Performed.is at next.within in
+    let few : ticks_of c.in-Some.performed.ticks ≤ 7 = rw c.in-Some.is at next.few in
+    let within : c.in-Some.performed.ticks ≤ 268435456 = rw c.in-Some.is at next.within in
     let small : c.loop-steps.clock < 18446744073709551616 = omega (arith, c.loop-steps.invariant.0, c.requires.2.1) in
     let small-then : c.wrapping_sub_u64-next.result < 18446744073709551616 = omega arith in
-    let falls : (ge : c.in-Performed.performed.ticks ≤ c.loop-steps.clock) → c.wrapping_sub_u64-next.result < c.loop-steps.clock = λ ge. less (c.args.bound - c.args.made) c.loop-steps.clock c.in-Performed.performed.ticks c.wrapping_sub_u64-next.result c.requires.2.1 c.loop-steps.invariant.1 few within small small-then c.wrapping_sub_u64-next.ensures.value ge in
+    let falls : (ge : c.in-Some.performed.ticks ≤ c.loop-steps.clock) → c.wrapping_sub_u64-next.result < c.loop-steps.clock = λ ge. less (c.args.bound - c.args.made) c.loop-steps.clock c.in-Some.performed.ticks c.wrapping_sub_u64-next.result c.requires.2.1 c.loop-steps.invariant.1 few within small small-then c.wrapping_sub_u64-next.ensures.value ge in
     falls c.if-clock-performed.false
 
 pub loop-steps-preserved : goal.loop-steps-preserved
 loop-steps-preserved c =
     let kept : length c.dispatch.new.memory ≡ full_memory = omega (arith, c.loop-steps.invariant.2) in
-    let quiet : due (raised c.args.nmi) (machine_of c.loop-steps.registers (c.args.start.cycles + cycles_in c.loop-steps.clock) (cond (ltb c.args.made (c.args.bound - 1 - steps_in c.loop-steps.clock)) c.args.nmi c.args.start.nmi)) ≡ Quiet = held_quiet c.args.nmi (machine_of c.loop-steps.registers (c.args.start.cycles + cycles_in c.loop-steps.clock) (cond (ltb c.args.made (c.args.bound - 1 - steps_in c.loop-steps.clock)) c.args.nmi c.args.start.nmi)) (level_held (ltb c.args.made (c.args.bound - 1 - steps_in c.loop-steps.clock)) c.args.start.nmi c.args.nmi c.requires.1) in
+    let quiet : due (raised c.args.nmi) (machine_of c.loop-steps.registers (c.args.start.cycles + cycles_in c.loop-steps.clock) (cond (ltb c.args.made (c.args.bound - 1 - steps_in c.loop-steps.clock)) c.args.nmi c.args.start.nmi)) ≡ None = held_quiet c.args.nmi (machine_of c.loop-steps.registers (c.args.start.cycles + cycles_in c.loop-steps.clock) (cond (ltb c.args.made (c.args.bound - 1 - steps_in c.loop-steps.clock)) c.args.nmi c.args.start.nmi)) (level_held (ltb c.args.made (c.args.bound - 1 - steps_in c.loop-steps.clock)) c.args.start.nmi c.args.nmi c.requires.1) in
     let room : c.args.start.cycles + cycles_in c.loop-steps.clock ≤ highest_count = omega (arith, c.loop-steps.invariant.1, c.requires.2.2 c.if-start-gt-HIGHEST_COUNT.false) in
     let next : StepsBy (raised c.args.nmi) (machine_of c.loop-steps.registers (c.args.start.cycles + cycles_in c.loop-steps.clock) (cond (ltb c.args.made (c.args.bound - 1 - steps_in c.loop-steps.clock)) c.args.nmi c.args.start.nmi)) c.loop-steps.memory c.dispatch.result c.dispatch.new.memory = step_by_lem _ _ _ room quiet _ c.get_byte-opcode.ensures c.dispatch.ensures in
-    let few : ticks_of c.in-Performed.performed.ticks ≤ 7 = rw c.in-Performed.is at next.few in
+    let few : ticks_of c.in-Some.performed.ticks ≤ 7 = rw c.in-Some.is at next.few in
     let unseen : ahead_of (in_map c.args.reads.now) (in_map c.args.stores.now) (raised c.args.nmi) (machine_of c.loop-steps.registers (c.args.start.cycles + cycles_in c.loop-steps.clock) (cond (ltb c.args.made (c.args.bound - 1 - steps_in c.loop-steps.clock)) c.args.nmi c.args.start.nmi)) c.loop-steps.memory ≡ Ahead.Nothing = elim c.if-may_touch.branch [ then-may_touch+in_default w ↦ sym (rw w.kept-left.ensures at w.look_ahead-ahead.ensures) ∙ w.in_default.is | else-may_touch w ↦ none_ahead (in_map c.args.reads.now) (in_map c.args.stores.now) (raised c.args.nmi) (machine_of c.loop-steps.registers (c.args.start.cycles + cycles_in c.loop-steps.clock) (cond (ltb c.args.made (c.args.bound - 1 - steps_in c.loop-steps.clock)) c.args.nmi c.args.start.nmi)) c.loop-steps.memory room quiet (c.may_touch.ensures w.if-may_touch.false) ] in
-    let by-variant : (q : Dispatched) → c.dispatch.result ≡ q → Gives (step_full (raised c.args.nmi) (machine_of c.loop-steps.registers (c.args.start.cycles + cycles_in c.loop-steps.clock) (cond (ltb c.args.made (c.args.bound - 1 - steps_in c.loop-steps.clock)) c.args.nmi c.args.start.nmi))) c.loop-steps.memory (step_by (raised c.args.nmi) (machine_of c.loop-steps.registers (c.args.start.cycles + cycles_in c.loop-steps.clock) (cond (ltb c.args.made (c.args.bound - 1 - steps_in c.loop-steps.clock)) c.args.nmi c.args.start.nmi)) q) c.dispatch.new.memory = λ q e. subst (λ (q : Dispatched). Gives (step_full (raised c.args.nmi) (machine_of c.loop-steps.registers (c.args.start.cycles + cycles_in c.loop-steps.clock) (cond (ltb c.args.made (c.args.bound - 1 - steps_in c.loop-steps.clock)) c.args.nmi c.args.start.nmi))) c.loop-steps.memory (step_by (raised c.args.nmi) (machine_of c.loop-steps.registers (c.args.start.cycles + cycles_in c.loop-steps.clock) (cond (ltb c.args.made (c.args.bound - 1 - steps_in c.loop-steps.clock)) c.args.nmi c.args.start.nmi)) q) c.dispatch.new.memory) e next.gives in
-    let after : guarded_full (in_map c.args.reads.now) (in_map c.args.stores.now) (suc (steps_in c.loop-steps.clock)) (c.args.bound - 1 - steps_in c.loop-steps.clock) (raised c.args.nmi) (machine_of c.loop-steps.registers (c.args.start.cycles + cycles_in c.loop-steps.clock) (cond (ltb c.args.made (c.args.bound - 1 - steps_in c.loop-steps.clock)) c.args.nmi c.args.start.nmi)) c.loop-steps.memory ≡ guarded_full (in_map c.args.reads.now) (in_map c.args.stores.now) (steps_in c.loop-steps.clock) ((c.args.bound - 1 - steps_in c.loop-steps.clock) + 1) (raised c.args.nmi) (machine_of c.in-Performed.performed.registers (c.args.start.cycles + cycles_in c.loop-steps.clock + ticks_of c.in-Performed.performed.ticks) c.args.nmi) c.dispatch.new.memory = guarded_goes_on (in_map c.args.reads.now) (in_map c.args.stores.now) (steps_in c.loop-steps.clock) (c.args.bound - 1 - steps_in c.loop-steps.clock) (raised c.args.nmi) (machine_of c.loop-steps.registers (c.args.start.cycles + cycles_in c.loop-steps.clock) (cond (ltb c.args.made (c.args.bound - 1 - steps_in c.loop-steps.clock)) c.args.nmi c.args.start.nmi)) c.loop-steps.memory _ _ unseen (by-variant _ c.in-Performed.is) refl in
-    let within : c.in-Performed.performed.ticks ≤ 268435456 = rw c.in-Performed.is at next.within in
+    let by-variant : (q : Option Performed) → c.dispatch.result ≡ q → Gives (step_full (raised c.args.nmi) (machine_of c.loop-steps.registers (c.args.start.cycles + cycles_in c.loop-steps.clock) (cond (ltb c.args.made (c.args.bound - 1 - steps_in c.loop-steps.clock)) c.args.nmi c.args.start.nmi))) c.loop-steps.memory (step_by (raised c.args.nmi) (machine_of c.loop-steps.registers (c.args.start.cycles + cycles_in c.loop-steps.clock) (cond (ltb c.args.made (c.args.bound - 1 - steps_in c.loop-steps.clock)) c.args.nmi c.args.start.nmi)) q) c.dispatch.new.memory = λ q e. subst (λ (q : Option Performed). Gives (step_full (raised c.args.nmi) (machine_of c.loop-steps.registers (c.args.start.cycles + cycles_in c.loop-steps.clock) (cond (ltb c.args.made (c.args.bound - 1 - steps_in c.loop-steps.clock)) c.args.nmi c.args.start.nmi))) c.loop-steps.memory (step_by (raised c.args.nmi) (machine_of c.loop-steps.registers (c.args.start.cycles + cycles_in c.loop-steps.clock) (cond (ltb c.args.made (c.args.bound - 1 - steps_in c.loop-steps.clock)) c.args.nmi c.args.start.nmi)) q) c.dispatch.new.memory) e next.gives in
+    let after : guarded_full (in_map c.args.reads.now) (in_map c.args.stores.now) (suc (steps_in c.loop-steps.clock)) (c.args.bound - 1 - steps_in c.loop-steps.clock) (raised c.args.nmi) (machine_of c.loop-steps.registers (c.args.start.cycles + cycles_in c.loop-steps.clock) (cond (ltb c.args.made (c.args.bound - 1 - steps_in c.loop-steps.clock)) c.args.nmi c.args.start.nmi)) c.loop-steps.memory ≡ guarded_full (in_map c.args.reads.now) (in_map c.args.stores.now) (steps_in c.loop-steps.clock) ((c.args.bound - 1 - steps_in c.loop-steps.clock) + 1) (raised c.args.nmi) (machine_of c.in-Some.performed.registers (c.args.start.cycles + cycles_in c.loop-steps.clock + ticks_of c.in-Some.performed.ticks) c.args.nmi) c.dispatch.new.memory = guarded_goes_on (in_map c.args.reads.now) (in_map c.args.stores.now) (steps_in c.loop-steps.clock) (c.args.bound - 1 - steps_in c.loop-steps.clock) (raised c.args.nmi) (machine_of c.loop-steps.registers (c.args.start.cycles + cycles_in c.loop-steps.clock) (cond (ltb c.args.made (c.args.bound - 1 - steps_in c.loop-steps.clock)) c.args.nmi c.args.start.nmi)) c.loop-steps.memory _ _ unseen (by-variant _ c.in-Some.is) refl in
+    let within : c.in-Some.performed.ticks ≤ 268435456 = rw c.in-Some.is at next.within in
     let small : c.loop-steps.clock < 18446744073709551616 = omega (arith, c.loop-steps.invariant.0, c.requires.2.1) in
     let small-then : c.wrapping_sub_u64-next.result < 18446744073709551616 = omega arith in
-    let one_less : (ge : c.in-Performed.performed.ticks ≤ c.loop-steps.clock) → steps_in c.loop-steps.clock ≡ suc (steps_in c.wrapping_sub_u64-next.result) = λ ge. less_steps (c.args.bound - c.args.made) c.loop-steps.clock c.in-Performed.performed.ticks c.wrapping_sub_u64-next.result c.requires.2.1 c.loop-steps.invariant.1 few within small small-then c.wrapping_sub_u64-next.ensures.value ge in
-    let longer : (ge : c.in-Performed.performed.ticks ≤ c.loop-steps.clock) → cycles_in c.wrapping_sub_u64-next.result ≡ cycles_in c.loop-steps.clock + ticks_of c.in-Performed.performed.ticks = λ ge. more_cycles (c.args.bound - c.args.made) c.loop-steps.clock c.in-Performed.performed.ticks c.wrapping_sub_u64-next.result c.requires.2.1 c.loop-steps.invariant.1 few within small small-then c.wrapping_sub_u64-next.ensures.value ge in
+    let one_less : (ge : c.in-Some.performed.ticks ≤ c.loop-steps.clock) → steps_in c.loop-steps.clock ≡ suc (steps_in c.wrapping_sub_u64-next.result) = λ ge. less_steps (c.args.bound - c.args.made) c.loop-steps.clock c.in-Some.performed.ticks c.wrapping_sub_u64-next.result c.requires.2.1 c.loop-steps.invariant.1 few within small small-then c.wrapping_sub_u64-next.ensures.value ge in
+    let longer : (ge : c.in-Some.performed.ticks ≤ c.loop-steps.clock) → cycles_in c.wrapping_sub_u64-next.result ≡ cycles_in c.loop-steps.clock + ticks_of c.in-Some.performed.ticks = λ ge. more_cycles (c.args.bound - c.args.made) c.loop-steps.clock c.in-Some.performed.ticks c.wrapping_sub_u64-next.result c.requires.2.1 c.loop-steps.invariant.1 few within small small-then c.wrapping_sub_u64-next.ensures.value ge in
     let ge = c.if-clock-performed.false in
     let a = c.args in
     let later = a.bound - 1 - steps_in c.wrapping_sub_u64-next.result in
     let counted : (c.args.bound - 1 - steps_in c.loop-steps.clock) + 1 ≡ later = omega (arith, one_less ge, c.loop-steps.invariant.0) in
-    let cycles : a.start.cycles + cycles_in c.loop-steps.clock + ticks_of c.in-Performed.performed.ticks ≡ a.start.cycles + cycles_in c.wrapping_sub_u64-next.result = omega (arith, longer ge) in (
+    let cycles : a.start.cycles + cycles_in c.loop-steps.clock + ticks_of c.in-Some.performed.ticks ≡ a.start.cycles + cycles_in c.wrapping_sub_u64-next.result = omega (arith, longer ge) in (
       omega (arith, one_less ge, c.loop-steps.invariant.0),
       omega (arith, one_less ge, longer ge, few, c.loop-steps.invariant.1),
       kept,
       c.loop-steps.invariant.3
           ∙ after
           ∙ same_at (in_map c.args.reads.now) (in_map c.args.stores.now) _ _ _ (one_less ge) counted cycles (sym (ap (λ (t : Bool). cond t a.nmi a.start.nmi) (lt-ltb a.made later (omega (arith, one_less ge, c.loop-steps.invariant.0)))))
-          ∙ ap (λ (r : Registers). guarded_full (in_map c.args.reads.now) (in_map c.args.stores.now) (suc (steps_in c.wrapping_sub_u64-next.result)) later (raised a.nmi) (machine_of r (a.start.cycles + cycles_in c.wrapping_sub_u64-next.result) (cond (ltb a.made later) a.nmi a.start.nmi)) c.dispatch.new.memory) (sym c.kept_apart-registers-in-Performed.ensures),
+          ∙ ap (λ (r : Registers). guarded_full (in_map c.args.reads.now) (in_map c.args.stores.now) (suc (steps_in c.wrapping_sub_u64-next.result)) later (raised a.nmi) (machine_of r (a.start.cycles + cycles_in c.wrapping_sub_u64-next.result) (cond (ltb a.made later) a.nmi a.start.nmi)) c.dispatch.new.memory) (sym c.kept_apart-registers-in-Some.ensures),
     )
 
-pub overflow_sub-steps-in-NotAnOpcode : goal.overflow_sub-steps-in-NotAnOpcode
-overflow_sub-steps-in-NotAnOpcode c = omega (arith, c.requires.2.0)
+pub overflow_sub-steps-in-None : goal.overflow_sub-steps-in-None
+overflow_sub-steps-in-None c = omega (arith, c.requires.2.0)
 
 pub overflow_sub-steps-in-NotAnOpcode-2 : goal.overflow_sub-steps-in-NotAnOpcode-2
 overflow_sub-steps-in-NotAnOpcode-2 c = omega (arith, c.loop-steps.invariant.0)
 
-pub overflow_add-cycles-in-NotAnOpcode : goal.overflow_add-cycles-in-NotAnOpcode
-overflow_add-cycles-in-NotAnOpcode c =
+pub overflow_add-cycles-in-None : goal.overflow_add-cycles-in-None
+overflow_add-cycles-in-None c =
     let room : c.args.start.cycles + cycles_in c.loop-steps.clock ≤ highest_count = omega (arith, c.loop-steps.invariant.1, c.requires.2.2 c.if-start-gt-HIGHEST_COUNT.false) in
     omega (arith, room)
 
-pub returns-in-NotAnOpcode : goal.returns-in-NotAnOpcode
-returns-in-NotAnOpcode c =
-    let quiet : due (raised c.args.nmi) (machine_of c.loop-steps.registers (c.args.start.cycles + cycles_in c.loop-steps.clock) (cond (ltb c.args.made (c.args.bound - 1 - steps_in c.loop-steps.clock)) c.args.nmi c.args.start.nmi)) ≡ Quiet = held_quiet c.args.nmi (machine_of c.loop-steps.registers (c.args.start.cycles + cycles_in c.loop-steps.clock) (cond (ltb c.args.made (c.args.bound - 1 - steps_in c.loop-steps.clock)) c.args.nmi c.args.start.nmi)) (level_held (ltb c.args.made (c.args.bound - 1 - steps_in c.loop-steps.clock)) c.args.start.nmi c.args.nmi c.requires.1) in
+pub returns-in-None : goal.returns-in-None
+returns-in-None c =
+    let quiet : due (raised c.args.nmi) (machine_of c.loop-steps.registers (c.args.start.cycles + cycles_in c.loop-steps.clock) (cond (ltb c.args.made (c.args.bound - 1 - steps_in c.loop-steps.clock)) c.args.nmi c.args.start.nmi)) ≡ None = held_quiet c.args.nmi (machine_of c.loop-steps.registers (c.args.start.cycles + cycles_in c.loop-steps.clock) (cond (ltb c.args.made (c.args.bound - 1 - steps_in c.loop-steps.clock)) c.args.nmi c.args.start.nmi)) (level_held (ltb c.args.made (c.args.bound - 1 - steps_in c.loop-steps.clock)) c.args.start.nmi c.args.nmi c.requires.1) in
     let room : c.args.start.cycles + cycles_in c.loop-steps.clock ≤ highest_count = omega (arith, c.loop-steps.invariant.1, c.requires.2.2 c.if-start-gt-HIGHEST_COUNT.false) in
     let unseen : ahead_of (in_map c.args.reads.now) (in_map c.args.stores.now) (raised c.args.nmi) (machine_of c.loop-steps.registers (c.args.start.cycles + cycles_in c.loop-steps.clock) (cond (ltb c.args.made (c.args.bound - 1 - steps_in c.loop-steps.clock)) c.args.nmi c.args.start.nmi)) c.loop-steps.memory ≡ Ahead.Nothing = elim c.if-may_touch.branch [ then-may_touch+in_default w ↦ sym (rw w.kept-left.ensures at w.look_ahead-ahead.ensures) ∙ w.in_default.is | else-may_touch w ↦ none_ahead (in_map c.args.reads.now) (in_map c.args.stores.now) (raised c.args.nmi) (machine_of c.loop-steps.registers (c.args.start.cycles + cycles_in c.loop-steps.clock) (cond (ltb c.args.made (c.args.bound - 1 - steps_in c.loop-steps.clock)) c.args.nmi c.args.start.nmi)) c.loop-steps.memory room quiet (c.may_touch.ensures w.if-may_touch.false) ] in
     let next : StepsBy (raised c.args.nmi) (machine_of c.loop-steps.registers (c.args.start.cycles + cycles_in c.loop-steps.clock) (cond (ltb c.args.made (c.args.bound - 1 - steps_in c.loop-steps.clock)) c.args.nmi c.args.start.nmi)) c.loop-steps.memory c.dispatch.result c.dispatch.new.memory = step_by_lem _ _ _ room quiet _ c.get_byte-opcode.ensures c.dispatch.ensures in
-    let by-variant : (q : Dispatched) → c.dispatch.result ≡ q → Gives (step_full (raised c.args.nmi) (machine_of c.loop-steps.registers (c.args.start.cycles + cycles_in c.loop-steps.clock) (cond (ltb c.args.made (c.args.bound - 1 - steps_in c.loop-steps.clock)) c.args.nmi c.args.start.nmi))) c.loop-steps.memory (step_by (raised c.args.nmi) (machine_of c.loop-steps.registers (c.args.start.cycles + cycles_in c.loop-steps.clock) (cond (ltb c.args.made (c.args.bound - 1 - steps_in c.loop-steps.clock)) c.args.nmi c.args.start.nmi)) q) c.dispatch.new.memory = λ q e. subst (λ (q : Dispatched). Gives (step_full (raised c.args.nmi) (machine_of c.loop-steps.registers (c.args.start.cycles + cycles_in c.loop-steps.clock) (cond (ltb c.args.made (c.args.bound - 1 - steps_in c.loop-steps.clock)) c.args.nmi c.args.start.nmi))) c.loop-steps.memory (step_by (raised c.args.nmi) (machine_of c.loop-steps.registers (c.args.start.cycles + cycles_in c.loop-steps.clock) (cond (ltb c.args.made (c.args.bound - 1 - steps_in c.loop-steps.clock)) c.args.nmi c.args.start.nmi)) q) c.dispatch.new.memory) e next.gives in
-    rw (c.ran-in-NotAnOpcode.ensures, c.kept-left-in-NotAnOpcode.ensures)
+    let by-variant : (q : Option Performed) → c.dispatch.result ≡ q → Gives (step_full (raised c.args.nmi) (machine_of c.loop-steps.registers (c.args.start.cycles + cycles_in c.loop-steps.clock) (cond (ltb c.args.made (c.args.bound - 1 - steps_in c.loop-steps.clock)) c.args.nmi c.args.start.nmi))) c.loop-steps.memory (step_by (raised c.args.nmi) (machine_of c.loop-steps.registers (c.args.start.cycles + cycles_in c.loop-steps.clock) (cond (ltb c.args.made (c.args.bound - 1 - steps_in c.loop-steps.clock)) c.args.nmi c.args.start.nmi)) q) c.dispatch.new.memory = λ q e. subst (λ (q : Option Performed). Gives (step_full (raised c.args.nmi) (machine_of c.loop-steps.registers (c.args.start.cycles + cycles_in c.loop-steps.clock) (cond (ltb c.args.made (c.args.bound - 1 - steps_in c.loop-steps.clock)) c.args.nmi c.args.start.nmi))) c.loop-steps.memory (step_by (raised c.args.nmi) (machine_of c.loop-steps.registers (c.args.start.cycles + cycles_in c.loop-steps.clock) (cond (ltb c.args.made (c.args.bound - 1 - steps_in c.loop-steps.clock)) c.args.nmi c.args.start.nmi)) q) c.dispatch.new.memory) e next.gives in
+    rw (c.ran-in-None.ensures, c.kept-left-in-None.ensures)
     (sym
     (c.loop-steps.invariant.3
-    ∙ guarded_stops (in_map c.args.reads.now) (in_map c.args.stores.now) (steps_in c.loop-steps.clock) (c.args.bound - 1 - steps_in c.loop-steps.clock) _ (machine_of c.loop-steps.registers (c.args.start.cycles + cycles_in c.loop-steps.clock) (cond (ltb c.args.made (c.args.bound - 1 - steps_in c.loop-steps.clock)) c.args.nmi c.args.start.nmi)) c.loop-steps.memory _ _ unseen (by-variant _ c.in-NotAnOpcode.is) refl))
+    ∙ guarded_stops (in_map c.args.reads.now) (in_map c.args.stores.now) (steps_in c.loop-steps.clock) (c.args.bound - 1 - steps_in c.loop-steps.clock) _ (machine_of c.loop-steps.registers (c.args.start.cycles + cycles_in c.loop-steps.clock) (cond (ltb c.args.made (c.args.bound - 1 - steps_in c.loop-steps.clock)) c.args.nmi c.args.start.nmi)) c.loop-steps.memory _ _ unseen (by-variant _ c.in-None.is) refl))

@@ -1,5 +1,5 @@
 -- Laws that the code's proofs cite.
-use Rattle.std.specs.Prelude.{◌≡◌, ℕ, zero, suc, ◌+◌, ◌-◌, ◌<◌, ◌≤◌, Bool, true, false, cond, not, ◌&&◌, List, ◌≢◌}
+use Rattle.std.specs.Prelude.{◌≡◌, ℕ, zero, suc, ◌+◌, ◌-◌, ◌<◌, ◌≤◌, Bool, true, false, cond, not, ◌&&◌, List, ◌≢◌, Some, None}
 use Rattle.std.proofs.Math.Path.{refl}
 use Rattle.std.proofs.Common.{ap, ap₂, sym, ◌∙◌, subst, true≢false, inl, inr, eq-eqb, ne_eqb}
 use native.Mathlib.Omega.{arith}
@@ -7,7 +7,6 @@ use Rattle.manual.specs.declared.Lines.{Lines}
 use Rattle.manual.specs.declared.Machine.{Machine}
 use Rattle.manual.specs.declared.Stepped.{Stepped}
 use Rattle.manual.specs.declared.Ended.{Ended}
-use Rattle.manual.specs.declared.Due.TheVariants.{Through, Quiet}
 use Rattle.manual.specs.declared.Reason.TheVariants.{Made, MemoryNotFull, NoCycleRoom}
 use Rattle.manual.specs.Micro.{exec, Gives}
 use Rattle.manual.specs.Outcomes.{is_made}
@@ -29,11 +28,11 @@ use Rattle.guard_near.specs.Inner.Near.{Untouched}
 -- ---- what is ahead
 
 -- nothing, if the byte at the counter touches nothing and no line is due
-pub none_ahead : (reads stores : ℕ → Bool) (lines : Lines) (s : Machine) (m : List ℕ) → s.cycles ≤ highest_count → due lines s ≡ Quiet
+pub none_ahead : (reads stores : ℕ → Bool) (lines : Lines) (s : Machine) (m : List ℕ) → s.cycles ≤ highest_count → due lines s ≡ None
     → Untouched reads stores s.registers m
     → ahead_of reads stores lines s m ≡ Ahead.Nothing
 none_ahead reads stores lines s m room is (r, w) =
-    ap₂ touching (ap (first_in reads) (due_list lines s m Quiet room is) ∙ r) (ap (first_in stores) (due_stores lines s m Quiet room is) ∙ w)
+    ap₂ touching (ap (first_in reads) (due_list lines s m None room is) ∙ r) (ap (first_in stores) (due_stores lines s m None room is) ∙ w)
 
 -- ---- the next step
 
@@ -70,14 +69,14 @@ guarded_end reads stores k lines s m = refl
 -- ---- with IRQ high
 
 -- if nothing is due, NMI does not fall
-pub quiet_held : (lines : Lines) (s : Machine) → due lines s ≡ Quiet → falls lines s ≡ false
+pub quiet_held : (lines : Lines) (s : Machine) → due lines s ≡ None → falls lines s ≡ false
 quiet_held lines s e = go (falls lines s) (calls lines s) e
   where
-    go : (t u : Bool) → cond t (Through nmi_vector) (cond u (Through irq_vector) Quiet) ≡ Quiet → t ≡ false
+    go : (t u : Bool) → cond t (Some nmi_vector) (cond u (Some irq_vector) None) ≡ None → t ≡ false
     go true u h = absurd (not_quiet _ nmi_vector h refl)
     go false u h = refl
 
-pub held_quiet : (nmi : Bool) (s : Machine) → (s.nmi && not nmi) ≡ false → due (raised nmi) s ≡ Quiet
+pub held_quiet : (nmi : Bool) (s : Machine) → (s.nmi && not nmi) ≡ false → due (raised nmi) s ≡ None
 held_quiet nmi s e = due_none (raised nmi) s e refl
 
 -- nor does it after a step, when the last level is the present one
@@ -86,11 +85,11 @@ level_held true was true e = refl
 level_held true was false e = refl
 level_held false was nmi e = e
 
-module _ (lines : Lines) (s : Machine) (m : List ℕ) (none : due lines s ≡ Quiet) where
+module _ (lines : Lines) (s : Machine) (m : List ℕ) (none : due lines s ≡ None) where
   abbrev high : Lines
   high = raised lines.nmi
 
-  also : due high s ≡ Quiet
+  also : due high s ≡ None
   also = held_quiet lines.nmi s (quiet_held lines s none)
 
   same_ahead : (reads stores : ℕ → Bool) → ahead_of reads stores lines s m ≡ ahead_of reads stores high s m

@@ -1,15 +1,13 @@
 -- Where the step of an opcode may reach besides its own bytes, by the number of a region, and that nothing is guarded there.
-use Rattle.std.specs.Prelude.{◌≡◌, ℕ, ◌+◌, ◌<◌, Bool, false, cond, List, [], ◌∷◌, ◌==◌, slice_index_or}
+use Rattle.std.specs.Prelude.{◌≡◌, ℕ, ◌+◌, ◌<◌, Bool, false, cond, List, [], ◌∷◌, ◌==◌, slice_index_or, Option, Some, None}
+use Rattle.instruction.specs.declared.Entry.{Entry}
 use Rattle.registers.specs.declared.Registers.{Registers}
 use Rattle.instruction.specs.declared.Instruction.{Instruction}
 use Rattle.instruction.specs.declared.Instruction.TheVariants.{Read, Store, Modify, Branch, Internal, BRK, JMP, JSR, PHA, PHP, PLA, PLP, RTI, RTS}
 use Rattle.instruction.specs.declared.AddressingMode.{AddressingMode}
 use Rattle.instruction.specs.declared.AddressingMode.TheVariants.{Accumulator, Implied, Immediate, ZeroPage, ZeroPageX, ZeroPageY, Relative, Absolute, AbsoluteX, AbsoluteY, BuggyIndirect, IndexedIndirectX, IndirectIndexedY}
-use Rattle.instruction.specs.declared.Decoded.{Decoded}
-use Rattle.instruction.specs.declared.Decoded.TheVariants.{Defined, Undefined}
 use Rattle.instruction.specs.Modes.{operand_bytes}
 use Rattle.instruction.specs.Opcodes.{decoded}
-use Rattle.manual.specs.declared.Due.TheVariants.{Quiet}
 use Rattle.manual.specs.Words.{low_byte, address_of, joined}
 use Rattle.manual.specs.ReadList.{addressed, first_operand, pointer_at, listed_due}
 use Rattle.manual.specs.StoreList.{stored_by_due}
@@ -37,7 +35,7 @@ module _ (reads stores : ℕ → Bool) where
 
   -- in all that the byte at the counter reads and stores to
   abbrev pub Untouched : Registers → List ℕ → Type 0
-  Untouched r m = (first_in reads (listed_due Quiet r m) ≡ Found.Nothing) × (first_in stores (stored_by_due Quiet r m) ≡ Found.Nothing)
+  Untouched r m = (first_in reads (listed_due None r m) ≡ Found.Nothing) × (first_in stores (stored_by_due None r m) ≡ Found.Nothing)
 
 -- ---- the regions by number
 
@@ -97,9 +95,9 @@ region_for PHA mode = 9
 region_for PHP mode = 9
 region_for BRK mode = 10
 
-abbrev pub region_of_entry : Decoded → ℕ
-region_of_entry (Defined e) = region_for e.instruction e.mode
-region_of_entry Undefined = 0
+abbrev pub region_of_entry : Option Entry → ℕ
+region_of_entry (Some e) = region_for e.instruction e.mode
+region_of_entry None = 0
 
 abbrev pub region_of : ℕ → ℕ
 region_of k = region_of_entry (decoded k)

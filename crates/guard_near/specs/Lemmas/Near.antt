@@ -1,5 +1,6 @@
 -- If nothing is guarded in the region of an opcode, its step touches nothing.
-use Rattle.std.specs.Prelude.{◌≡◌, ℕ, ◌+◌, ◌/◌, ◌<◌, Bool, true, false, cond, not, List, [], ◌∷◌, ◌++◌, ◌==◌, ◌≢◌, bit_or, slice_index, slice_index_or}
+use Rattle.std.specs.Prelude.{◌≡◌, ℕ, ◌+◌, ◌/◌, ◌<◌, Bool, true, false, cond, not, List, [], ◌∷◌, ◌++◌, ◌==◌, ◌≢◌, bit_or, slice_index, slice_index_or, Option, Some, None}
+use Rattle.instruction.specs.declared.Entry.{Entry}
 use Rattle.std.proofs.Math.Path.{refl}
 use Rattle.std.proofs.Common.{ap, sym, ◌∙◌, true≢false, arith, eqb-true}
 use Rattle.std.proofs.Math.Decide.{ℕ_discrete}
@@ -14,8 +15,6 @@ use Rattle.instruction.specs.declared.StoreOperation.{StoreOperation}
 use Rattle.instruction.specs.declared.ModifyOperation.{ModifyOperation}
 use Rattle.instruction.specs.declared.AddressingMode.{AddressingMode}
 use Rattle.instruction.specs.declared.AddressingMode.TheVariants.{Accumulator, Implied, Immediate, ZeroPage, ZeroPageX, ZeroPageY, Relative, Absolute, AbsoluteX, AbsoluteY, BuggyIndirect, IndexedIndirectX, IndirectIndexedY}
-use Rattle.instruction.specs.declared.Decoded.{Decoded}
-use Rattle.instruction.specs.declared.Decoded.TheVariants.{Defined, Undefined}
 use Rattle.instruction.specs.Opcodes.{decoded, rows}
 use Rattle.manual.specs.Words.{low_byte, address_of, joined}
 use Rattle.manual.specs.Addressing.{operand, target}
@@ -259,10 +258,10 @@ module _ (reads stores : ℕ → Bool) (r : Registers) (m : List ℕ) (code : Co
   passes PHP mode l (below, (under, (here, rest))) = (none, last _ here)
   passes BRK mode l f = absurd (omega arith)
 
-  entry_passes : (d : Decoded) → region_of_entry d < 10 → AllFree reads stores (region_by (region_of_entry d) r m)
+  entry_passes : (d : Option Entry) → region_of_entry d < 10 → AllFree reads stores (region_by (region_of_entry d) r m)
       → (first_in reads (listed_entry d r m) ≡ Found.Nothing) × (first_in stores (stored_by_entry d r m) ≡ Found.Nothing)
-  entry_passes (Defined e) l f = passes e.instruction e.mode l f
-  entry_passes Undefined l f = (none, none_first stores)
+  entry_passes (Some e) l f = passes e.instruction e.mode l f
+  entry_passes None l f = (none, none_first stores)
 
   -- The byte at the counter touches nothing.
   pub untouched : {opcode : ℕ} → opcode ≡ slice_index m r.counter → region_of opcode < 10 → AllFree reads stores (region_by (region_of opcode) r m) → Untouched reads stores r m

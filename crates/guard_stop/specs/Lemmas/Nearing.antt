@@ -2,7 +2,7 @@
 use Prim.Native.Nat.{ℕ, zero, suc, ◌+◌, ◌-◌, ◌≤◌, ◌<◌}
 use Rattle.std.proofs.Math.Path.{◌≡◌, refl, ap}
 use Rattle.std.proofs.Common.{ap₂, sym, ◌∙◌, subst, true≢false, inl, ⊎_elim, eq-eqb, ne_eqb}
-use Rattle.std.specs.Prelude.{Bool, true, false, not, cond, List, [], ◌∷◌, ◌⊎◌, eqb}
+use Rattle.std.specs.Prelude.{Bool, true, false, not, cond, List, [], ◌∷◌, ◌⊎◌, eqb, None}
 use Rattle.std.proofs.Math.Logic.{inr}
 use Rattle.std.proofs.Math.Decide.{dec_lt}
 use native.Mathlib.Omega.{arith}
@@ -12,7 +12,6 @@ use Rattle.manual.specs.declared.Machine.{Machine}
 use Rattle.manual.specs.declared.Stepped.{Stepped}
 use Rattle.manual.specs.declared.Ended.{Ended}
 use Rattle.manual.specs.declared.Reason.{Reason}
-use Rattle.manual.specs.declared.Due.TheVariants.{Quiet}
 use Rattle.manual.specs.declared.Reason.TheVariants.{Made, MemoryNotFull, NoCycleRoom}
 use Rattle.manual.specs.Micro.{exec, Gives}
 use Rattle.manual.specs.Outcomes.{is_made, refused, ended}
@@ -167,7 +166,7 @@ module _ (stop bound : ℕ) (lines : Lines) where
     unfolding first_in
     seen s m room f z e =
         let none = (nothing_ahead (first_in guards (listed_step_full lines s m)) _ e).0 in
-        let first = ap (first_in guards) (due_list lines s m Quiet room (due_none lines s f (rw irq))) in
+        let first = ap (first_in guards) (due_list lines s m None room (due_none lines s f (rw irq))) in
         let found : Found.At stop ≡ Found.Nothing = rw (z, at) at (sym first ∙ none) in
         let y : ◌≡◌ {A = ℕ} 0 1 = cc in omega arith
 

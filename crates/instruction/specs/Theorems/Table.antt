@@ -1,5 +1,5 @@
 -- The rules of the opcode table: one test, computed over all its rows, and what it shows of every opcode.
-use Rattle.std.specs.Prelude.{ℕ, zero, suc, ◌+◌, ◌≤◌, ◌<◌, Bool, true, false, not, ◌&&◌, cond, List, [], ◌∷◌, ◌≡◌, refl, T, leb, ltb}
+use Rattle.std.specs.Prelude.{ℕ, zero, suc, ◌+◌, ◌≤◌, ◌<◌, Bool, true, false, not, ◌&&◌, cond, List, [], ◌∷◌, ◌≡◌, refl, T, leb, ltb, Option, Some, None}
 use Rattle.std.proofs.Common.{ap, ◌∙◌, arith, eq-eqb, ne_eqb, leb→le, ltb→lt}
 use Rattle.std.proofs.Math.Decide.{ℕ_discrete}
 use Rattle.std.specs.Float.Ieee.Fits.{and_l, and_r}
@@ -9,8 +9,6 @@ use Rattle.instruction.specs.Lemmas.Rule.{every_row, every_entry}
 use Rattle.instruction.specs.declared.Instruction.{Instruction}
 use Rattle.instruction.specs.declared.Instruction.TheVariants.{Read, Store, Modify, Branch, Internal, BRK, JMP, JSR, PHA, PHP, PLA, PLP, RTI, RTS}
 use Rattle.instruction.specs.declared.Entry.{Entry}
-use Rattle.instruction.specs.declared.Decoded.{Decoded}
-use Rattle.instruction.specs.declared.Decoded.TheVariants.{Defined, Undefined}
 
 -- The most cycles that may be added to a row's: 1 if a read crosses a page, and 2 for a branch that is taken to another page.
 abbrev pub most_extra : Instruction → ℕ
@@ -37,9 +35,9 @@ pub record Ruled (e : Entry) : Type 0 where
   pub bytes_least : 1 ≤ length_of e.mode
   pub bytes_most : length_of e.mode ≤ 3
 
-abbrev pub is_defined : Decoded → Bool
-is_defined (Defined e) = true
-is_defined Undefined = false
+abbrev pub is_defined : Option Entry → Bool
+is_defined (Some e) = true
+is_defined None = false
 
 -- how many numbers below a bound pass a test
 abbrev pub count_below : (ℕ → Bool) → ℕ → ℕ
@@ -49,7 +47,7 @@ count_below test (suc n) = cond (test n) 1 0 + count_below test n
 -- What holds of the table: of the 256 opcodes exactly 151 are defined, and whatever a number is decoded to keeps the rules.
 pub record TableRules : Type 0 where
   pub defined_151 : count_below (λ k. is_defined (decoded k)) 256 ≡ 151
-  pub ruled : (k : ℕ) (e : Entry) → decoded k ≡ Defined e → Ruled e
+  pub ruled : (k : ℕ) (e : Entry) → decoded k ≡ Some e → Ruled e
 
 -- ---- the test
 

@@ -1,6 +1,7 @@
 -- How long a listing can be.
 use Prim.Native.Nat.{ℕ, zero, suc, ◌+◌, ◌*◌, ◌≤◌}
-use Rattle.std.specs.Prelude.{◌≡◌, refl, List, [], ◌∷◌, length, get_or}
+use Rattle.std.specs.Prelude.{◌≡◌, refl, List, [], ◌∷◌, length, get_or, Option, Some, None}
+use Rattle.instruction.specs.declared.Entry.{Entry}
 use native.Mathlib.Omega.{arith}
 use Rattle.std.proofs.Math.ListN.{length-append}
 use Rattle.instruction.specs.declared.Instruction.{Instruction}
@@ -12,8 +13,6 @@ use Rattle.instruction.specs.declared.BranchOperation.TheVariants.{BCC, BCS, BEQ
 use Rattle.instruction.specs.declared.InternalOperation.TheVariants.{CLC, CLD, CLI, CLV, DEX, DEY, INX, INY, NOP, SEC, SED, SEI, TAX, TAY, TSX, TXA, TXS, TYA}
 use Rattle.instruction.specs.declared.AddressingMode.{AddressingMode}
 use Rattle.instruction.specs.declared.AddressingMode.TheVariants.{Accumulator, Implied, Immediate, ZeroPage, ZeroPageX, ZeroPageY, Relative, Absolute, AbsoluteX, AbsoluteY, BuggyIndirect, IndexedIndirectX, IndirectIndexedY}
-use Rattle.instruction.specs.declared.Decoded.{Decoded}
-use Rattle.instruction.specs.declared.Decoded.TheVariants.{Defined, Undefined}
 use Rattle.instruction.specs.Opcodes.{decoded}
 use Rattle.instruction.specs.Modes.{length_of}
 use Rattle.opcode_table.specs.Names.{mnemonic, name_of}
@@ -43,9 +42,9 @@ three_letters PLP = refl
 three_letters RTI = refl
 three_letters RTS = refl
 
-pub name_length : (d : Decoded) → length (name_of d) ≡ 3
-name_length Undefined = refl
-name_length (Defined e) = three_letters e.instruction
+pub name_length : (d : Option Entry) → length (name_of d) ≡ 3
+name_length None = refl
+name_length (Some e) = three_letters e.instruction
 
 module _ (m : List ℕ) (at : ℕ) where
   operand_length : (mode : AddressingMode) → length (operand mode m at) ≤ 8
@@ -64,9 +63,9 @@ module _ (m : List ℕ) (at : ℕ) where
   operand_length IndexedIndirectX = omega arith
   operand_length IndirectIndexedY = omega arith
 
-  operand_of_length : (d : Decoded) → length (operand_of m at d) ≤ 8
-  operand_of_length Undefined = omega arith
-  operand_of_length (Defined e) = operand_length e.mode
+  operand_of_length : (d : Option Entry) → length (operand_of m at d) ≤ 8
+  operand_of_length None = omega arith
+  operand_of_length (Some e) = operand_length e.mode
 
   -- an operand of a short instruction is short
   operand_share : (mode : AddressingMode) → length (operand mode m at) + 4 ≤ 6 * length_of mode
@@ -85,9 +84,9 @@ module _ (m : List ℕ) (at : ℕ) where
   operand_share IndexedIndirectX = omega arith
   operand_share IndirectIndexedY = omega arith
 
-  pub operand_of_share : (d : Decoded) → length (operand_of m at d) + 4 ≤ 6 * size d
-  operand_of_share Undefined = omega arith
-  operand_of_share (Defined e) = operand_share e.mode
+  pub operand_of_share : (d : Option Entry) → length (operand_of m at d) + 4 ≤ 6 * size d
+  operand_of_share None = omega arith
+  operand_of_share (Some e) = operand_share e.mode
 
 pub field_length : (bs : List ℕ) → length (byte_fields bs) ≡ 3 * length bs
 field_length [] = refl
@@ -98,7 +97,7 @@ module _ (m : List ℕ) where
   bytes_length at zero = refl
   bytes_length at (suc n) = let rest = bytes_length (suc at) n in omega arith
 
-  fields_length : (at : ℕ) (d : Decoded) → length (fields (line_of m at d)) ≤ longest_instruction
+  fields_length : (at : ℕ) (d : Option Entry) → length (fields (line_of m at d)) ≤ longest_instruction
   fields_length at d =
       simp length-append
       (omega (arith, field_length (bytes_from m at (size d)), bytes_length at (size d), size_most d, name_length d, operand_of_length m at d))
@@ -107,5 +106,5 @@ module _ (m : List ℕ) where
   instruction_length at = fields_length at (decoded (get_or m at 0))
 
   -- and with its end
-  line_length : (at : ℕ) (d : Decoded) → length (text (line_of m at d)) ≤ longest_instruction + 1
+  line_length : (at : ℕ) (d : Option Entry) → length (text (line_of m at d)) ≤ longest_instruction + 1
   line_length at d = omega (arith, length-append (fields (line_of m at d)) (characters "\n"), fields_length at d)

@@ -1,6 +1,6 @@
 -- Laws of the lines, for the proofs of the code: `end` is the address after the stretch.
 use Prim.Native.Nat.{ℕ, zero, suc, ◌+◌, ◌-◌, ◌≤◌, ◌<◌}
-use Rattle.std.specs.Prelude.{◌≡◌, get_or}
+use Rattle.std.specs.Prelude.{◌≡◌, get_or, Option, Some, None}
 use Rattle.std.proofs.Math.Path.{refl}
 use Rattle.std.proofs.Common.{ap, ◌∙◌, add-one}
 use mathlib.Core.List.{List, [], ◌++◌}
@@ -9,8 +9,6 @@ use borrow.Author.Tests.{le-leb, lt-leb}
 use Rattle.instruction.specs.declared.AddressingMode.{AddressingMode}
 use Rattle.instruction.specs.declared.AddressingMode.TheVariants.{Accumulator, Implied, Immediate, ZeroPage, ZeroPageX, ZeroPageY, Relative, Absolute, AbsoluteX, AbsoluteY, BuggyIndirect, IndexedIndirectX, IndirectIndexedY}
 use Rattle.instruction.specs.declared.Entry.{Entry}
-use Rattle.instruction.specs.declared.Decoded.{Decoded}
-use Rattle.instruction.specs.declared.Decoded.TheVariants.{Defined, Undefined}
 use Rattle.instruction.specs.Opcodes.{decoded}
 use Rattle.instruction.specs.Modes.{length_of}
 use Rattle.manual.specs.Words.{address_of}
@@ -20,13 +18,13 @@ use Rattle.text_writing.specs.Numerals.{hex2, spaced}
 use Rattle.listing.specs.Lines.{Line, bytes_from, size, words, line_of, unknown, lines, byte_fields, text, texts}
 
 -- A line takes 1 to 3 bytes.
-pub size_some : (d : Decoded) → 0 < size d
-size_some Undefined = omega arith
-size_some (Defined e) = omega arith
+pub size_some : (d : Option Entry) → 0 < size d
+size_some None = omega arith
+size_some (Some e) = omega arith
 
-pub size_most : (d : Decoded) → size d ≤ 3
-size_most Undefined = omega arith
-size_most (Defined e) = at_most e.mode
+pub size_most : (d : Option Entry) → size d ≤ 3
+size_most None = omega arith
+size_most (Some e) = at_most e.mode
   where
     at_most : (mode : AddressingMode) → length_of mode ≤ 3
     at_most mode = elim mode as (λ k. length_of k ≤ 3) [ Accumulator ↦ omega arith | Implied ↦ omega arith | Immediate ↦ omega arith | ZeroPage ↦ omega arith | ZeroPageX ↦ omega arith | ZeroPageY ↦ omega arith | Relative ↦ omega arith | Absolute ↦ omega arith | AbsoluteX ↦ omega arith | AbsoluteY ↦ omega arith | BuggyIndirect ↦ omega arith | IndexedIndirectX ↦ omega arith | IndirectIndexedY ↦ omega arith ]
@@ -43,7 +41,7 @@ module _ (m : List ℕ) where
   skip at (suc n) (suc k) h =
       skip (suc at) n k (omega arith) ∙ same {a = suc at + k} {b = at + suc k} {n = n - k} {k = suc n - suc k} (omega arith) (omega arith)
 
-  after_line : (at n end : ℕ) (d : Decoded) → decoded (get_or m at 0) ≡ d → size d ≤ n → n ≡ end - at
+  after_line : (at n end : ℕ) (d : Option Entry) → decoded (get_or m at 0) ≡ d → size d ≤ n → n ≡ end - at
       → texts (lines m at n 0) ≡ text (line_of m at d) ++ texts (lines m (at + size d) (end - (at + size d)) 0)
   unfolding lines
   after_line at zero end d e h f = absurd (omega (arith, size_some d))
@@ -54,7 +52,7 @@ module _ (m : List ℕ) where
       (skip (suc at) n (size d - 1) (omega arith)
       ∙ same {a = suc at + (size d - 1)} {b = at + size d} {n = n - (size d - 1)} {k = end - (at + size d)} (omega arith) (omega arith)))
 
-  cut_at : (at n : ℕ) (d : Decoded) → decoded (get_or m at 0) ≡ d → n < size d → lines m at n 0 ≡ unknown m at n
+  cut_at : (at n : ℕ) (d : Option Entry) → decoded (get_or m at 0) ≡ d → n < size d → lines m at n 0 ≡ unknown m at n
   unfolding lines
   cut_at at zero d e h = refl
   cut_at at (suc n) d e h = rw (e, lt-leb (size d) (suc n) h)
@@ -72,7 +70,7 @@ module _ (m : List ℕ) where
 
   -- one more of the bytes that are no whole instruction, and of those of a line
   pub next_unknown : (at end : ℕ) → at < end
-      → texts (unknown m at (end - at)) ≡ text (line_of m at Undefined) ++ texts (unknown m (at + 1) (end - (at + 1)))
+      → texts (unknown m at (end - at)) ≡ text (line_of m at None) ++ texts (unknown m (at + 1) (end - (at + 1)))
   next_unknown at end h =
       let one : end - at ≡ suc (end - (at + 1)) = omega arith in
       rw (one, add-one at)
@@ -109,9 +107,9 @@ module _ (m : List ℕ) where
       rw none
 
 -- The words of a line, by what its opcode means.
-module _ (m : List ℕ) (at : ℕ) {d : Decoded} {name : List ℕ} (n : name ≡ name_of d) where
-  pub words_undefined : d ≡ Undefined → name ≡ words m at d
+module _ (m : List ℕ) (at : ℕ) {d : Option Entry} {name : List ℕ} (n : name ≡ name_of d) where
+  pub words_undefined : d ≡ None → name ≡ words m at d
   words_undefined h = n ∙ rw h
 
-  pub words_defined : {e : Entry} → d ≡ Defined e → name ++ operand e.mode m at ≡ words m at d
+  pub words_defined : {e : Entry} → d ≡ Some e → name ++ operand e.mode m at ≡ words m at d
   words_defined h = rw (n, h)

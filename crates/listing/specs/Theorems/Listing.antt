@@ -1,15 +1,14 @@
 -- What a listing shows: every byte of its stretch once and in order, each line at the address of its bytes; and examples. How
 -- much room it takes is in proofs/Room.antt.
 use Prim.Native.Nat.{ℕ, zero, suc, ◌+◌, ◌-◌, ◌≤◌}
-use Rattle.std.specs.Prelude.{◌≡◌, Bool, true, false, cond, leb, get_or, length, replicate}
+use Rattle.std.specs.Prelude.{◌≡◌, Bool, true, false, cond, leb, get_or, length, replicate, Option, None}
+use Rattle.instruction.specs.declared.Entry.{Entry}
 use Rattle.std.proofs.Math.Path.{refl, ap}
 use Rattle.std.proofs.Common.{sym, ◌∙◌, subst}
 use mathlib.Core.List.{List, [], ◌∷◌, ◌++◌}
 use native.Mathlib.Omega.{arith}
 use Rattle.std.proofs.lemmas.List.Edits.{sets}
 use borrow.Author.Tests.{leb-true}
-use Rattle.instruction.specs.declared.Decoded.{Decoded}
-use Rattle.instruction.specs.declared.Decoded.TheVariants.{Undefined}
 use Rattle.instruction.specs.Opcodes.{rows, decoded}
 use Rattle.manual.specs.Words.{address_of, signed, around}
 use Rattle.manual.specs.Branching.{branch_target}
@@ -76,14 +75,14 @@ module _ (m : List ℕ) where
   LinesAt at (l ∷ ls) = (l.address ≡ at) × (l.bytes ≡ bytes_from m at (length l.bytes)) × LinesAt (at + length l.bytes) ls
 
   -- the line of what stands at an address, and lines after it
-  line_at : (at : ℕ) (d : Decoded) (ls : List Line) → LinesAt (at + size d) ls → LinesAt at (line_of m at d ∷ ls)
+  line_at : (at : ℕ) (d : Option Entry) (ls : List Line) → LinesAt (at + size d) ls → LinesAt at (line_of m at d ∷ ls)
   line_at at d ls h =
       let count = bytes_length m at (size d) in
       (refl, ap (bytes_from m at) (sym count), subst (λ (n : ℕ). LinesAt (at + n) ls) (sym count) h)
 
   unknown_at : (at n : ℕ) → LinesAt at (unknown m at n)
   unknown_at at zero = tt
-  unknown_at at (suc n) = let next : suc at ≡ at + 1 = omega arith in line_at at Undefined (unknown m (suc at) n) (subst (λ (a : ℕ). LinesAt a (unknown m (suc at) n)) next (unknown_at (suc at) n))
+  unknown_at at (suc n) = let next : suc at ≡ at + 1 = omega arith in line_at at None (unknown m (suc at) n) (subst (λ (a : ℕ). LinesAt a (unknown m (suc at) n)) next (unknown_at (suc at) n))
 
   placed : (at n covered : ℕ) → LinesAt (at + covered) (lines m at n covered)
   unfolding lines

@@ -1,17 +1,13 @@
 -- What a step and a run give, by the tests that they make: the laws behind the answers, and those that the code's proofs cite.
-use Rattle.std.specs.Prelude.{ℕ, zero, suc, ◌+◌, ◌≤◌, ◌<◌, ◌≡◌, Bool, true, false, ◌&&◌, List, get_or}
+use Rattle.std.specs.Prelude.{ℕ, zero, suc, ◌+◌, ◌≤◌, ◌<◌, ◌≡◌, Bool, true, false, ◌&&◌, List, get_or, Option, Some, None}
 use Rattle.std.proofs.Math.Path.{refl}
 use Rattle.std.proofs.Common.{◌∙◌, arith, lt-ltb, le-ltb, le-leb, eq-eqb, ne_eqb}
 use Rattle.std.proofs.lemmas.Bool.{lt-leb}
 use Rattle.registers.specs.declared.Registers.{Registers}
 use Rattle.instruction.specs.declared.Entry.{Entry}
-use Rattle.instruction.specs.declared.Decoded.{Decoded}
-use Rattle.instruction.specs.declared.Decoded.TheVariants.{Defined, Undefined}
 use Rattle.instruction.specs.Opcodes.{decoded}
 use Rattle.manual.specs.declared.Lines.{Lines}
 use Rattle.manual.specs.declared.Machine.{Machine}
-use Rattle.manual.specs.declared.Due.{Due}
-use Rattle.manual.specs.declared.Due.TheVariants.{Through, Quiet}
 use Rattle.manual.specs.declared.Effect.{Effect}
 use Rattle.manual.specs.declared.Stepped.{Stepped}
 use Rattle.manual.specs.declared.Reason.{Reason}
@@ -43,13 +39,13 @@ unfolding step_full
 step_late lines s m h = simp (lt-ltb _ _ h)
 
 -- what is due
-pub due_nmi : (lines : Lines) (s : Machine) → falls lines s ≡ true → due lines s ≡ Through nmi_vector
+pub due_nmi : (lines : Lines) (s : Machine) → falls lines s ≡ true → due lines s ≡ Some nmi_vector
 due_nmi lines s f = rw f
 
-pub due_irq : (lines : Lines) (s : Machine) → falls lines s ≡ false → calls lines s ≡ true → due lines s ≡ Through irq_vector
+pub due_irq : (lines : Lines) (s : Machine) → falls lines s ≡ false → calls lines s ≡ true → due lines s ≡ Some irq_vector
 due_irq lines s f c = rw (f, c)
 
-pub due_none : (lines : Lines) (s : Machine) → falls lines s ≡ false → calls lines s ≡ false → due lines s ≡ Quiet
+pub due_none : (lines : Lines) (s : Machine) → falls lines s ≡ false → calls lines s ≡ false → due lines s ≡ None
 due_none lines s f c = rw (f, c)
 
 -- two tests, one after the other
@@ -64,48 +60,48 @@ second_not true b e = e
 second_not false b e = refl
 
 -- if there is room, a step is what is due
-pub step_attends : (lines : Lines) (s : Machine) (d : Due) → s.cycles ≤ highest_count → due lines s ≡ d → step_full lines s ≡ attend d lines s
+pub step_attends : (lines : Lines) (s : Machine) (d : Option ℕ) → s.cycles ≤ highest_count → due lines s ≡ d → step_full lines s ≡ attend d lines s
 unfolding step_full
 step_attends lines s d h e = rw (le-ltb _ _ h, e)
 
 attend_serves : (vector : ℕ) (lines : Lines) (s : Machine) (m : List ℕ) {r : Registers} {m' : List ℕ}
-    → Gives (served vector s.registers) m r m' → Gives (attend (Through vector) lines s) m (made lines s 0 r serving_cycles) m'
+    → Gives (served vector s.registers) m r m' → Gives (attend (Some vector) lines s) m (made lines s 0 r serving_cycles) m'
 unfolding attend
 attend_serves vector lines s m g = then (served vector s.registers) _ m g refl
 
 pub step_serves : (lines : Lines) (s : Machine) (m : List ℕ) (vector : ℕ) {r : Registers} {m' : List ℕ} → s.cycles ≤ highest_count
-    → due lines s ≡ Through vector
+    → due lines s ≡ Some vector
     → Gives (served vector s.registers) m r m'
     → Gives (step_full lines s) m (made lines s 0 r serving_cycles) m'
-step_serves lines s m vector h e g = rw (step_attends lines s (Through vector) h e) (attend_serves vector lines s m g)
+step_serves lines s m vector h e g = rw (step_attends lines s (Some vector) h e) (attend_serves vector lines s m g)
 
-act_undefined : (d : Decoded) (lines : Lines) (s : Machine) (m : List ℕ) → d ≡ Undefined → Gives (act d lines s) m (refused NotAnOpcode s) m
+act_undefined : (d : Option Entry) (lines : Lines) (s : Machine) (m : List ℕ) → d ≡ None → Gives (act d lines s) m (refused NotAnOpcode s) m
 unfolding act
 act_undefined d lines s m e = rw e
 
-act_defined : (d : Decoded) (lines : Lines) (s : Machine) (m : List ℕ) (e : Entry) {f : Effect} {m' : List ℕ} → d ≡ Defined e
+act_defined : (d : Option Entry) (lines : Lines) (s : Machine) (m : List ℕ) (e : Entry) {f : Effect} {m' : List ℕ} → d ≡ Some e
     → Gives (perform e.instruction e.mode s.registers) m f m'
     → Gives (act d lines s) m (made lines s f.first f.registers (e.cycles + f.extra)) m'
 unfolding act
 act_defined d lines s m e p g = rw p (then (perform e.instruction e.mode s.registers) _ m g refl)
 
-attend_quiet : (lines : Lines) (s : Machine) (m : List ℕ) → exec (attend Quiet lines s) m ≡ exec (act (decoded (opcode_of s m)) lines s) m
+attend_quiet : (lines : Lines) (s : Machine) (m : List ℕ) → exec (attend None lines s) m ≡ exec (act (decoded (opcode_of s m)) lines s) m
 unfolding attend
 attend_quiet lines s m = refl
 
-pub step_undefined : (lines : Lines) (s : Machine) (m : List ℕ) → s.cycles ≤ highest_count → due lines s ≡ Quiet
-    → decoded (opcode_of s m) ≡ Undefined
+pub step_undefined : (lines : Lines) (s : Machine) (m : List ℕ) → s.cycles ≤ highest_count → due lines s ≡ None
+    → decoded (opcode_of s m) ≡ None
     → Gives (step_full lines s) m (refused NotAnOpcode s) m
 step_undefined lines s m h q e =
-    rw (step_attends lines s Quiet h q) (attend_quiet lines s m ∙ act_undefined (decoded (opcode_of s m)) lines s m e)
+    rw (step_attends lines s None h q) (attend_quiet lines s m ∙ act_undefined (decoded (opcode_of s m)) lines s m e)
 
 pub step_defined : (lines : Lines) (s : Machine) (m : List ℕ) (e : Entry) {f : Effect} {m' : List ℕ} → s.cycles ≤ highest_count
-    → due lines s ≡ Quiet
-    → decoded (opcode_of s m) ≡ Defined e
+    → due lines s ≡ None
+    → decoded (opcode_of s m) ≡ Some e
     → Gives (perform e.instruction e.mode s.registers) m f m'
     → Gives (step_full lines s) m (made lines s f.first f.registers (e.cycles + f.extra)) m'
 step_defined lines s m e h q p g =
-    rw (step_attends lines s Quiet h q) (attend_quiet lines s m ∙ act_defined (decoded (opcode_of s m)) lines s m e p g)
+    rw (step_attends lines s None h q) (attend_quiet lines s m ∙ act_defined (decoded (opcode_of s m)) lines s m e p g)
 
 -- ---- a run
 

@@ -1,6 +1,6 @@
 -- What a step reads and stores to, in one list and in order: the rules' reads (ReadList), then the stores (StoreList). Only two instructions read
 -- after they have pushed: BRK its vector, as a served line does, and JSR the high byte of its operand.
-use Rattle.std.specs.Prelude.{ℕ, ◌+◌, ◌≡◌, refl, Bool, true, not, cond, ◌&&◌, ◌||◌, List, [], ◌∷◌, ◌++◌, map, T, eqb, ltb, get_or, take, drop}
+use Rattle.std.specs.Prelude.{ℕ, ◌+◌, ◌≡◌, refl, Bool, true, not, cond, ◌&&◌, ◌||◌, List, [], ◌∷◌, ◌++◌, map, T, eqb, ltb, get_or, take, drop, Option, Some, None}
 use Rattle.std.proofs.Common.{ap, ap₂, ◌∙◌, append-nil, arith, take-append-drop}
 use Rattle.registers.specs.declared.Registers.{Registers}
 use Rattle.registers.specs.State.{set_s, up, down}
@@ -10,14 +10,10 @@ use Rattle.instruction.specs.declared.ModifyOperation.{ModifyOperation}
 use Rattle.instruction.specs.declared.AddressingMode.{AddressingMode}
 use Rattle.instruction.specs.declared.AddressingMode.TheVariants.{Accumulator, Implied, Immediate, ZeroPage, ZeroPageX, ZeroPageY, Relative, Absolute, AbsoluteX, AbsoluteY, BuggyIndirect, IndexedIndirectX, IndirectIndexedY}
 use Rattle.instruction.specs.declared.Entry.{Entry}
-use Rattle.instruction.specs.declared.Decoded.{Decoded}
-use Rattle.instruction.specs.declared.Decoded.TheVariants.{Defined, Undefined}
 use Rattle.instruction.specs.Opcodes.{rows, decoded}
 use Rattle.instruction.specs.Lemmas.Rule.{every_entry}
 use Rattle.manual.specs.declared.Lines.{Lines}
 use Rattle.manual.specs.declared.Machine.{Machine}
-use Rattle.manual.specs.declared.Due.{Due}
-use Rattle.manual.specs.declared.Due.TheVariants.{Through, Quiet}
 use Rattle.manual.specs.declared.Target.{Target}
 use Rattle.manual.specs.Micro.{Micro, read, exec, Access, read_at, store_at, accesses, reads_of, stores_of, ◌>>=◌}
 use Rattle.manual.specs.Words.{low_byte}
@@ -60,14 +56,14 @@ in_order stores_second l k = map read_at (take 1 l) ++ (map store_at k ++ map re
 abbrev pub accessed : Instruction → AddressingMode → Registers → List ℕ → List Access
 accessed i mode r m = in_order (order_of i) (listed i mode r m) (stored_to i mode r m)
 
-abbrev pub accessed_by_entry : Decoded → Registers → List ℕ → List Access
-accessed_by_entry (Defined e) r m = accessed e.instruction e.mode r m
-accessed_by_entry Undefined r m = []
+abbrev pub accessed_by_entry : Option Entry → Registers → List ℕ → List Access
+accessed_by_entry (Some e) r m = accessed e.instruction e.mode r m
+accessed_by_entry None r m = []
 
 -- a line that is served pushes, and then reads its vector; otherwise the opcode is read first
-abbrev pub accessed_by_due : Due → Registers → List ℕ → List Access
-accessed_by_due (Through vector) r m = in_order stores_first (listed_due (Through vector) r m) (three_pushed r)
-accessed_by_due Quiet r m = read_at r.counter ∷ accessed_by_entry (decoded (get_or m r.counter 0)) r m
+abbrev pub accessed_by_due : Option ℕ → Registers → List ℕ → List Access
+accessed_by_due (Some vector) r m = in_order stores_first (listed_due (Some vector) r m) (three_pushed r)
+accessed_by_due None r m = read_at r.counter ∷ accessed_by_entry (decoded (get_or m r.counter 0)) r m
 
 -- a step refused with 1 or 2 looks at nothing, one refused with 3 at the opcode
 abbrev pub accessed_by_step : ℕ → Lines → Machine → List ℕ → List Access
@@ -113,7 +109,7 @@ suits PHP mode = true
 suits BRK mode = true
 
 -- every row of the table suits
-pub entry_suits : (k : ℕ) (e : Entry) → decoded k ≡ Defined e → T (suits e.instruction e.mode)
+pub entry_suits : (k : ℕ) (e : Entry) → decoded k ≡ Some e → T (suits e.instruction e.mode)
 unfolding rows
 entry_suits = every_entry (λ e. suits e.instruction e.mode) tt
 
@@ -207,19 +203,19 @@ perform_accesses PHA mode r m h = refl
 perform_accesses PHP mode r m h = refl
 perform_accesses BRK mode r m h = simp down_down
 
-pub act_accesses : (d : Decoded) (lines : Lines) (s : Machine) (m : List ℕ) → ((e : Entry) → d ≡ Defined e → T (suits e.instruction e.mode))
+pub act_accesses : (d : Option Entry) (lines : Lines) (s : Machine) (m : List ℕ) → ((e : Entry) → d ≡ Some e → T (suits e.instruction e.mode))
     → accesses (act d lines s) m ≡ accessed_by_entry d s.registers m
 unfolding accesses act
-act_accesses (Defined e) lines s m h =
+act_accesses (Some e) lines s m h =
     accesses_bind (perform e.instruction e.mode s.registers) _ m
     ∙ append-nil _
     ∙ perform_accesses e.instruction e.mode s.registers m (h e refl)
-act_accesses Undefined lines s m h = refl
+act_accesses None lines s m h = refl
 
-pub attend_accesses : (d : Due) (lines : Lines) (s : Machine) (m : List ℕ) → accesses (attend d lines s) m ≡ accessed_by_due d s.registers m
+pub attend_accesses : (d : Option ℕ) (lines : Lines) (s : Machine) (m : List ℕ) → accesses (attend d lines s) m ≡ accessed_by_due d s.registers m
 unfolding accesses attend served enter push push_address set_s
-attend_accesses (Through vector) lines s m = simp down_down
-attend_accesses Quiet lines s m =
+attend_accesses (Some vector) lines s m = simp down_down
+attend_accesses None lines s m =
     let opcode = get_or m s.registers.counter 0 in
     ap (λ (l : List Access). read_at s.registers.counter ∷ l) (act_accesses (decoded opcode) lines s m (entry_suits opcode))
 

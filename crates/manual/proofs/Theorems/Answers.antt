@@ -1,15 +1,11 @@
 -- Each answer of the table (docs/RULES.md), 'given exactly when', for a step; and what is left behind.
-use Rattle.std.specs.Prelude.{ℕ, ◌≤◌, ◌<◌, ◌≡◌, refl, ◌↔◌, ◌⊎◌, List}
+use Rattle.std.specs.Prelude.{ℕ, ◌≤◌, ◌<◌, ◌≡◌, refl, ◌↔◌, ◌⊎◌, List, Option, Some, None}
 use Rattle.std.proofs.Common.{ap, inl, inr, ⊎_elim, arith}
 use Rattle.std.proofs.Math.Decide.{dec_lt, ℕ_discrete}
 use Rattle.instruction.specs.declared.Entry.{Entry}
-use Rattle.instruction.specs.declared.Decoded.{Decoded}
-use Rattle.instruction.specs.declared.Decoded.TheVariants.{Defined, Undefined}
 use Rattle.instruction.specs.Opcodes.{decoded}
 use Rattle.manual.specs.declared.Lines.{Lines}
 use Rattle.manual.specs.declared.Machine.{Machine}
-use Rattle.manual.specs.declared.Due.{Due}
-use Rattle.manual.specs.declared.Due.TheVariants.{Through, Quiet}
 use Rattle.manual.specs.declared.Stepped.{Stepped}
 use Rattle.manual.specs.declared.Reason.{Reason}
 use Rattle.manual.specs.declared.Reason.TheVariants.{MemoryNotFull, NoCycleRoom, NotAnOpcode}
@@ -24,15 +20,15 @@ abbrev pub NoRoom : Machine → Type 0
 NoRoom s = highest_count < s.cycles
 
 abbrev pub NoOpcode : Lines → Machine → List ℕ → Type 0
-NoOpcode lines s m = (s.cycles ≤ highest_count) × (due lines s ≡ Quiet) × (decoded (opcode_of s m) ≡ Undefined)
+NoOpcode lines s m = (s.cycles ≤ highest_count) × (due lines s ≡ None) × (decoded (opcode_of s m) ≡ None)
 
 -- there is room, and a line is served
 abbrev pub Served : Lines → Machine → Type 0
-Served lines s = (s.cycles ≤ highest_count) × ((vector : ℕ) × (due lines s ≡ Through vector))
+Served lines s = (s.cycles ≤ highest_count) × ((vector : ℕ) × (due lines s ≡ Some vector))
 
 -- there is room and no line to serve, and the byte at the counter is one of the 151
 abbrev pub Ready : Lines → Machine → List ℕ → Type 0
-Ready lines s m = (s.cycles ≤ highest_count) × (due lines s ≡ Quiet) × ((e : Entry) × (decoded (opcode_of s m) ≡ Defined e))
+Ready lines s m = (s.cycles ≤ highest_count) × (due lines s ≡ None) × ((e : Entry) × (decoded (opcode_of s m) ≡ Some e))
 
 -- the four ways of a step on a full memory
 pub data Way (lines : Lines) (s : Machine) (m : List ℕ) : Type 0 where
@@ -44,13 +40,13 @@ pub data Way (lines : Lines) (s : Machine) (m : List ℕ) : Type 0 where
 pub way : (lines : Lines) (s : Machine) (m : List ℕ) → Way lines s m
 way lines s m = room (dec_lt highest_count s.cycles)
   where
-    opcode : s.cycles ≤ highest_count → due lines s ≡ Quiet → (d : Decoded) → decoded (opcode_of s m) ≡ d → Way lines s m
-    opcode h q (Defined e) p = ready (h, q, (e, p))
-    opcode h q Undefined p = undefined (h, q, p)
+    opcode : s.cycles ≤ highest_count → due lines s ≡ None → (d : Option Entry) → decoded (opcode_of s m) ≡ d → Way lines s m
+    opcode h q (Some e) p = ready (h, q, (e, p))
+    opcode h q None p = undefined (h, q, p)
 
-    line : s.cycles ≤ highest_count → (d : Due) → due lines s ≡ d → Way lines s m
-    line h (Through vector) p = serves (h, (vector, p))
-    line h Quiet p = opcode h p (decoded (opcode_of s m)) refl
+    line : s.cycles ≤ highest_count → (d : Option ℕ) → due lines s ≡ d → Way lines s m
+    line h (Some vector) p = serves (h, (vector, p))
+    line h None p = opcode h p (decoded (opcode_of s m)) refl
 
     room : Dec (highest_count < s.cycles) → Way lines s m
     room (yes h) = late h
@@ -74,10 +70,10 @@ pub record StepAnswers (size : ℕ) (lines : Lines) (s : Machine) (m : List ℕ)
   pub four : step_answer size lines s m ≡ 4 → ⊥
   pub unchanged : (step_answer size lines s m ≡ 0 → ⊥) → Gives (step size lines s) m (refused (exec (step size lines s) m).0.reason s) m
 
-pub not_both : (d : Decoded) (e : Entry) → d ≡ Undefined → d ≡ Defined e → ⊥
+pub not_both : (d : Option Entry) (e : Entry) → d ≡ None → d ≡ Some e → ⊥
 not_both d e p q = let z : ◌≡◌ {A = ℕ} 0 1 = cc in omega arith
 
-pub not_quiet : (d : Due) (vector : ℕ) → d ≡ Quiet → d ≡ Through vector → ⊥
+pub not_quiet : (d : Option ℕ) (vector : ℕ) → d ≡ None → d ≡ Some vector → ⊥
 not_quiet d vector p q = let z : ◌≡◌ {A = ℕ} 0 1 = cc in omega arith
 
 -- what is no opcode, with no line to serve, is not made

@@ -1,13 +1,11 @@
 -- The edges of the answer table (docs/RULES.md).
-use Rattle.std.specs.Prelude.{ℕ, suc, ◌+◌, ◌-◌, ◌<◌, ◌^◌, ◌≡◌, List, []}
+use Rattle.std.specs.Prelude.{ℕ, suc, ◌+◌, ◌-◌, ◌<◌, ◌^◌, ◌≡◌, List, [], Some, None}
 use Rattle.std.proofs.Math.Path.{refl}
 use Rattle.std.proofs.Common.{inl, inr, arith}
 use Rattle.instruction.specs.declared.Entry.{Entry}
-use Rattle.instruction.specs.declared.Decoded.TheVariants.{Defined}
 use Rattle.instruction.specs.Opcodes.{decoded}
 use Rattle.manual.specs.declared.Lines.{Lines}
 use Rattle.manual.specs.declared.Machine.{Machine}
-use Rattle.manual.specs.declared.Due.TheVariants.{Through, Quiet}
 use Rattle.manual.specs.Micro.{accesses, reads, Gives}
 use Rattle.manual.specs.declared.Reason.TheVariants.{Made, MemoryNotFull, NoCycleRoom, BoundTooHigh}
 use Rattle.manual.specs.Outcomes.{refused, ended}
@@ -41,11 +39,11 @@ module _ (lines : Lines) (s : Machine) (m : List ℕ) where
 
   -- From the count ..608 a step is made, of an opcode or of a line, and seven more cycles reach the last number of 64 bits; ..609 gives 2,
   -- whatever is due.
-  pub count_608 : (e : Entry) → s.cycles ≡ 18446744073709551608 → due lines s ≡ Quiet → decoded (opcode_of s m) ≡ Defined e
+  pub count_608 : (e : Entry) → s.cycles ≡ 18446744073709551608 → due lines s ≡ None → decoded (opcode_of s m) ≡ Some e
       → step_answer 65536 lines s m ≡ 0
   count_608 e c q d = (step_answers 65536 lines s m).zero.1 (refl, inr (omega arith, q, (e, d)))
 
-  pub line_608 : (vector : ℕ) → s.cycles ≡ 18446744073709551608 → due lines s ≡ Through vector → step_answer 65536 lines s m ≡ 0
+  pub line_608 : (vector : ℕ) → s.cycles ≡ 18446744073709551608 → due lines s ≡ Some vector → step_answer 65536 lines s m ≡ 0
   line_608 vector c d = (step_answers 65536 lines s m).zero.1 (refl, inl (omega arith, (vector, d)))
 
   pub seven_more : 18446744073709551608 + 7 ≡ 2 ^ 64 - 1

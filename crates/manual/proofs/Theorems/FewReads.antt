@@ -1,5 +1,5 @@
 -- A step reads at most five bytes.
-use Rattle.std.specs.Prelude.{ℕ, ◌≤◌, ◌≡◌, refl, Bool, not, ◌&&◌, ◌||◌, List, ◌++◌, T, eqb, ltb, get_or, length}
+use Rattle.std.specs.Prelude.{ℕ, ◌≤◌, ◌≡◌, refl, Bool, not, ◌&&◌, ◌||◌, List, ◌++◌, T, eqb, ltb, get_or, length, Option, Some, None}
 use Rattle.std.proofs.Common.{arith, lit≤}
 use Rattle.registers.specs.declared.Registers.{Registers}
 use Rattle.instruction.specs.declared.Instruction.{Instruction}
@@ -7,13 +7,9 @@ use Rattle.instruction.specs.declared.Instruction.TheVariants.{Read, Store, Modi
 use Rattle.instruction.specs.declared.AddressingMode.{AddressingMode}
 use Rattle.instruction.specs.declared.AddressingMode.TheVariants.{Accumulator, Implied, Immediate, ZeroPage, ZeroPageX, ZeroPageY, Relative, Absolute, AbsoluteX, AbsoluteY, BuggyIndirect, IndexedIndirectX, IndirectIndexedY}
 use Rattle.instruction.specs.declared.Entry.{Entry}
-use Rattle.instruction.specs.declared.Decoded.{Decoded}
-use Rattle.instruction.specs.declared.Decoded.TheVariants.{Defined, Undefined}
 use Rattle.instruction.specs.Opcodes.{decoded}
 use Rattle.manual.specs.declared.Lines.{Lines}
 use Rattle.manual.specs.declared.Machine.{Machine}
-use Rattle.manual.specs.declared.Due.{Due}
-use Rattle.manual.specs.declared.Due.TheVariants.{Through, Quiet}
 use Rattle.manual.specs.Micro.{reads}
 use Rattle.manual.specs.Interrupts.{due}
 use Rattle.manual.specs.Stepping.{full_memory, highest_count, step}
@@ -73,14 +69,14 @@ few_listed PHA mode r m h = lit≤ tt
 few_listed PHP mode r m h = lit≤ tt
 few_listed BRK mode r m h = lit≤ tt
 
-few_entry : (d : Decoded) (r : Registers) (m : List ℕ) → ((e : Entry) → d ≡ Defined e → T (suits e.instruction e.mode))
+few_entry : (d : Option Entry) (r : Registers) (m : List ℕ) → ((e : Entry) → d ≡ Some e → T (suits e.instruction e.mode))
     → length (listed_entry d r m) ≤ 4
-few_entry (Defined e) r m h = few_listed e.instruction e.mode r m (h e refl)
-few_entry Undefined r m h = lit≤ tt
+few_entry (Some e) r m h = few_listed e.instruction e.mode r m (h e refl)
+few_entry None r m h = lit≤ tt
 
-few_due : (d : Due) (r : Registers) (m : List ℕ) → length (listed_due d r m) ≤ 5
-few_due (Through vector) r m = lit≤ tt
-few_due Quiet r m =
+few_due : (d : Option ℕ) (r : Registers) (m : List ℕ) → length (listed_due d r m) ≤ 5
+few_due (Some vector) r m = lit≤ tt
+few_due None r m =
     let opcode = get_or m r.counter 0 in
     omega (arith, few_entry (decoded opcode) r m (entry_suits opcode))
 

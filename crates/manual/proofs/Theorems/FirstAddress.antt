@@ -1,5 +1,5 @@
 -- The first address on the bus (P8): the base's page with the sum's low byte, before the carry has reached the high byte.
-use Rattle.std.specs.Prelude.{ℕ, ◌+◌, ◌≤◌, ◌<◌, ◌≡◌, ◌↔◌, ◌⊎◌, Bool, not, List, T, get_or}
+use Rattle.std.specs.Prelude.{ℕ, ◌+◌, ◌≤◌, ◌<◌, ◌≡◌, ◌↔◌, ◌⊎◌, Bool, not, List, T, get_or, Some, None}
 use Rattle.std.proofs.Math.Path.{refl, ap, sym}
 use Rattle.std.proofs.Common.{◌∙◌, subst, ⊎_elim, arith, eqb-true, eq-eqb}
 use Rattle.std.proofs.Math.Bool.{true, false}
@@ -11,14 +11,12 @@ use Rattle.instruction.specs.declared.Instruction.{Instruction}
 use Rattle.instruction.specs.declared.Instruction.TheVariants.{Read, Store, Modify, Branch, Internal, BRK, JMP, JSR, PHA, PHP, PLA, PLP, RTI, RTS}
 use Rattle.instruction.specs.declared.ModifyOperation.{ModifyOperation}
 use Rattle.instruction.specs.declared.Entry.{Entry}
-use Rattle.instruction.specs.declared.Decoded.TheVariants.{Defined}
 use Rattle.instruction.specs.Opcodes.{rows, decoded}
 use Rattle.instruction.specs.Lemmas.Rule.{every_entry}
 use Rattle.instruction.specs.declared.AddressingMode.{AddressingMode}
 use Rattle.instruction.specs.declared.AddressingMode.TheVariants.{Accumulator, Implied, Immediate, ZeroPage, ZeroPageX, ZeroPageY, Relative, Absolute, AbsoluteX, AbsoluteY, BuggyIndirect, IndexedIndirectX, IndirectIndexedY}
 use Rattle.manual.specs.declared.Lines.{Lines}
 use Rattle.manual.specs.declared.Machine.{Machine}
-use Rattle.manual.specs.declared.Due.TheVariants.{Quiet}
 use Rattle.manual.specs.declared.Effect.{Effect}
 use Rattle.manual.specs.declared.Stepped.{Stepped}
 use Rattle.manual.specs.declared.Reason.TheVariants.{Made}
@@ -126,7 +124,7 @@ outs PHA mode = not (addressed mode)
 outs PHP mode = not (addressed mode)
 outs BRK mode = not (addressed mode)
 
-table_outs : (k : ℕ) (e : Entry) → decoded k ≡ Defined e → T (outs e.instruction e.mode)
+table_outs : (k : ℕ) (e : Entry) → decoded k ≡ Some e → T (outs e.instruction e.mode)
 unfolding rows
 table_outs = every_entry (λ e. outs e.instruction e.mode) tt
 
@@ -198,7 +196,7 @@ not_both false t u = t
 
 module _ (size : ℕ) (lines : Lines) (s : Machine) (m : List ℕ) {q : Stepped} {m' : List ℕ} (g : Gives (step size lines s) m q m') where
   -- P8, of a step that is made with no line to serve.
-  pub step_first : (e : Entry) → size ≡ full_memory → s.cycles ≤ highest_count → due lines s ≡ Quiet → decoded (opcode_of s m) ≡ Defined e
+  pub step_first : (e : Entry) → size ≡ full_memory → s.cycles ≤ highest_count → due lines s ≡ None → decoded (opcode_of s m) ≡ Some e
       → StepFirst e s.registers m q
   step_first e f h d p =
       let r = s.registers in
@@ -220,17 +218,17 @@ module _ (size : ℕ) (lines : Lines) (s : Machine) (m : List ℕ) {q : Stepped}
   pub step_none : (q.reason ≡ Made → ⊥) ⊎ Served lines s → q.first ≡ 0
   step_none = by_size (ℕ_discrete size full_memory)
     where
-      None : Stepped → List ℕ → Type 0
-      None q m' = (q.reason ≡ Made → ⊥) ⊎ Served lines s → q.first ≡ 0
+      Nowhere : Stepped → List ℕ → Type 0
+      Nowhere q m' = (q.reason ≡ Made → ⊥) ⊎ Served lines s → q.first ≡ 0
 
-      by_way : Gives (step_full lines s) m q m' → Way lines s m → None q m'
-      by_way g (late h) = same None (step_late lines s m h) (λ c. refl) g
-      by_way g (serves h) = same None (step_serves lines s m h.1.0 h.0 h.1.1 refl) (λ c. refl) g
-      by_way g (undefined h) = same None (step_undefined lines s m h.0 h.1 h.2) (λ c. refl) g
+      by_way : Gives (step_full lines s) m q m' → Way lines s m → Nowhere q m'
+      by_way g (late h) = same Nowhere (step_late lines s m h) (λ c. refl) g
+      by_way g (serves h) = same Nowhere (step_serves lines s m h.1.0 h.0 h.1.1 refl) (λ c. refl) g
+      by_way g (undefined h) = same Nowhere (step_undefined lines s m h.0 h.1 h.2) (λ c. refl) g
       by_way g (ready h) =
-          same None (step_defined lines s m h.2.0 h.0 h.1 h.2.1 refl)
+          same Nowhere (step_defined lines s m h.2.0 h.0 h.1 h.2.1 refl)
           (⊎_elim (λ f. absurd (f refl)) (λ v. absurd (not_quiet _ _ h.1 v.1.1))) g
 
-      by_size : Dec (size ≡ full_memory) → None q m'
+      by_size : Dec (size ≡ full_memory) → Nowhere q m'
       by_size (yes e) = by_way (rw (step_whole size lines s e) at g) (way lines s m)
-      by_size (no f) = same None (step_short size lines s m f) (λ c. refl) g
+      by_size (no f) = same Nowhere (step_short size lines s m f) (λ c. refl) g

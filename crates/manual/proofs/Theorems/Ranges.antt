@@ -1,6 +1,6 @@
 -- From registers and bytes in range every step and every run leaves them in range. A step adds at most 7 to the cycle count. (That the
 -- memory stays as long as it was is `exec_length` of Programs.)
-use Rattle.std.specs.Prelude.{ℕ, zero, suc, ◌+◌, ◌*◌, ◌≤◌, ◌<◌, ◌≡◌, refl, Bool, true, false, not, cond, ◌&&◌, List, eqb, leb}
+use Rattle.std.specs.Prelude.{ℕ, zero, suc, ◌+◌, ◌*◌, ◌≤◌, ◌<◌, ◌≡◌, refl, Bool, true, false, not, cond, ◌&&◌, List, eqb, leb, Option, Some, None}
 use Rattle.std.proofs.Common.{ap, arith, lit<, lit≤}
 use Rattle.std.proofs.Math.Dec.{ltb}
 use Rattle.registers.specs.declared.Registers.{Registers}
@@ -12,15 +12,11 @@ use Rattle.instruction.specs.declared.ModifyOperation.{ModifyOperation}
 use Rattle.instruction.specs.declared.AddressingMode.{AddressingMode}
 use Rattle.instruction.specs.declared.AddressingMode.TheVariants.{Accumulator, Implied, Immediate, ZeroPage, ZeroPageX, ZeroPageY, Relative, Absolute, AbsoluteX, AbsoluteY, BuggyIndirect, IndexedIndirectX, IndirectIndexedY}
 use Rattle.instruction.specs.declared.Entry.{Entry}
-use Rattle.instruction.specs.declared.Decoded.{Decoded}
-use Rattle.instruction.specs.declared.Decoded.TheVariants.{Defined, Undefined}
 use Rattle.instruction.specs.Modes.{operand_bytes}
 use Rattle.instruction.specs.Opcodes.{decoded}
 use Rattle.instruction.specs.Theorems.Table.{most_extra, Ruled, table_rules}
 use Rattle.manual.specs.declared.Lines.{Lines}
 use Rattle.manual.specs.declared.Machine.{Machine}
-use Rattle.manual.specs.declared.Due.{Due}
-use Rattle.manual.specs.declared.Due.TheVariants.{Through, Quiet}
 use Rattle.manual.specs.declared.Target.{Target}
 use Rattle.manual.specs.declared.Effect.{Effect}
 use Rattle.manual.specs.Micro.{Micro, done, exec}
@@ -174,38 +170,38 @@ StepInRange from q = MachineInRange from (allowance q.reason) q.machine × (q.fi
 unmoved : (from : ℕ) (s : Machine) → InRange s.registers → s.cycles ≤ from → MachineInRange from 0 s × (0 < 65536)
 unmoved from s h l = (record { registers = h; cycles = omega arith }, lit< tt)
 
-act_within : (d : Decoded) (lines : Lines) (s : Machine) → InRange s.registers
-    → ((e : Entry) → d ≡ Defined e → Ruled e)
+act_within : (d : Option Entry) (lines : Lines) (s : Machine) → InRange s.registers
+    → ((e : Entry) → d ≡ Some e → Ruled e)
     → Within (StepInRange s.cycles) (act d lines s)
 unfolding act
-act_within (Defined e) lines s h c =
+act_within (Some e) lines s h c =
     within_bind (Ranged (most_extra e.instruction)) (StepInRange s.cycles) (perform e.instruction e.mode s.registers) _
     (perform_within e.instruction e.mode s.registers h)
     (λ f l. (record { registers = l.0; cycles = omega (arith, l.1, (c e refl).total_most) }, l.2))
-act_within Undefined lines s h c = unmoved s.cycles s h (omega arith)
+act_within None lines s h c = unmoved s.cycles s h (omega arith)
 
-attend_within : (d : Due) (lines : Lines) (s : Machine) → InRange s.registers → ((vector : ℕ) → d ≡ Through vector → vector + 1 < 65536)
+attend_within : (d : Option ℕ) (lines : Lines) (s : Machine) → InRange s.registers → ((vector : ℕ) → d ≡ Some vector → vector + 1 < 65536)
     → Within (StepInRange s.cycles) (attend d lines s)
 unfolding attend
-attend_within (Through vector) lines s h v =
+attend_within (Some vector) lines s h v =
     within_bind InRange (StepInRange s.cycles) (served vector s.registers) _ (served_within vector s.registers (v vector refl) h)
     (λ r l. (record { registers = l; cycles = omega arith }, lit< tt))
-attend_within Quiet lines s h v = (h.counter, λ b l. act_within (decoded b) lines s h (table_rules.ruled b))
+attend_within None lines s h v = (h.counter, λ b l. act_within (decoded b) lines s h (table_rules.ruled b))
 
 -- both vectors are of the memory
-pub vector_within : (lines : Lines) (s : Machine) (vector : ℕ) → due lines s ≡ Through vector → vector + 1 < 65536
+pub vector_within : (lines : Lines) (s : Machine) (vector : ℕ) → due lines s ≡ Some vector → vector + 1 < 65536
 vector_within lines s =
     either Low (s.nmi && not lines.nmi) _ _ (λ v e. low v _ e (lit< tt))
     (either Low (not lines.irq && not s.registers.status.disable) _ _ (λ v e. low v _ e (lit< tt)) (λ v e. absurd (not_quiet _ v refl e)))
   where
-    Low : Due → Type 0
-    Low d = (vector : ℕ) → d ≡ Through vector → vector + 1 < 65536
+    Low : Option ℕ → Type 0
+    Low d = (vector : ℕ) → d ≡ Some vector → vector + 1 < 65536
 
-    of : Due → ℕ
-    of (Through v) = v
-    of Quiet = 0
+    of : Option ℕ → ℕ
+    of (Some v) = v
+    of None = 0
 
-    low : (v w : ℕ) → Through w ≡ Through v → w + 1 < 65536 → v + 1 < 65536
+    low : (v w : ℕ) → Some w ≡ Some v → w + 1 < 65536 → v + 1 < 65536
     low v w e l = let same : w ≡ v = ap of e in omega arith
 
 step_full_within : (lines : Lines) (s : Machine) → InRange s.registers → Within (StepInRange s.cycles) (step_full lines s)

@@ -1,15 +1,11 @@
 -- The definition reads exactly the addresses of the rules' list (ReadList), in that order: for a step and for a run, refused ones too.
-use Rattle.std.specs.Prelude.{ℕ, zero, suc, ◌+◌, ◌≡◌, List, ◌∷◌, ◌++◌, Bool, true, T, eqb, leb, ltb, get_or}
+use Rattle.std.specs.Prelude.{ℕ, zero, suc, ◌+◌, ◌≡◌, List, ◌∷◌, ◌++◌, Bool, true, T, eqb, leb, ltb, get_or, Option, Some, None}
 use Rattle.std.proofs.Math.Path.{refl}
 use Rattle.std.proofs.Common.{ap, ap₂, ◌∙◌}
 use Rattle.instruction.specs.declared.Entry.{Entry}
-use Rattle.instruction.specs.declared.Decoded.{Decoded}
-use Rattle.instruction.specs.declared.Decoded.TheVariants.{Defined, Undefined}
 use Rattle.instruction.specs.Opcodes.{decoded}
 use Rattle.manual.specs.declared.Lines.{Lines}
 use Rattle.manual.specs.declared.Machine.{Machine}
-use Rattle.manual.specs.declared.Due.{Due}
-use Rattle.manual.specs.declared.Due.TheVariants.{Through, Quiet}
 use Rattle.manual.specs.declared.Ended.{Ended}
 use Rattle.manual.specs.Micro.{Micro, exec, accesses, reads_of, reads}
 use Rattle.manual.specs.Outcomes.{is_made}
@@ -24,20 +20,20 @@ use Rattle.manual.proofs.Theorems.Accesses.{order_of, stores_first, suits, entry
 abbrev ReadsFrom : {A : Type 0} → List ℕ → Micro A → List ℕ → Type 0
 ReadsFrom m p l = reads p m ≡ l
 
-act_reads : (d : Decoded) (lines : Lines) (s : Machine) (m : List ℕ) → ((e : Entry) → d ≡ Defined e → T (suits e.instruction e.mode))
+act_reads : (d : Option Entry) (lines : Lines) (s : Machine) (m : List ℕ) → ((e : Entry) → d ≡ Some e → T (suits e.instruction e.mode))
     → reads (act d lines s) m ≡ listed_entry d s.registers m
-act_reads (Defined e) lines s m h =
-    ap reads_of (act_accesses (Defined e) lines s m h)
+act_reads (Some e) lines s m h =
+    ap reads_of (act_accesses (Some e) lines s m h)
     ∙ reads_in_order (order_of e.instruction) (listed e.instruction e.mode s.registers m) (stored_to e.instruction e.mode s.registers m)
-act_reads Undefined lines s m h = ap reads_of (act_accesses Undefined lines s m h)
+act_reads None lines s m h = ap reads_of (act_accesses None lines s m h)
 
 -- A line that is served reads the two bytes of its vector.
-attend_reads : (d : Due) (lines : Lines) (s : Machine) (m : List ℕ) → reads (attend d lines s) m ≡ listed_due d s.registers m
+attend_reads : (d : Option ℕ) (lines : Lines) (s : Machine) (m : List ℕ) → reads (attend d lines s) m ≡ listed_due d s.registers m
 unfolding accesses attend
-attend_reads (Through vector) lines s m =
-    ap reads_of (attend_accesses (Through vector) lines s m)
-    ∙ reads_in_order stores_first (listed_due (Through vector) s.registers m) (three_pushed s.registers)
-attend_reads Quiet lines s m =
+attend_reads (Some vector) lines s m =
+    ap reads_of (attend_accesses (Some vector) lines s m)
+    ∙ reads_in_order stores_first (listed_due (Some vector) s.registers m) (three_pushed s.registers)
+attend_reads None lines s m =
     let opcode = get_or m s.registers.counter 0 in
     ap (λ (l : List ℕ). s.registers.counter ∷ l) (act_reads (decoded opcode) lines s m (entry_suits opcode))
 

@@ -1,6 +1,7 @@
 -- The interrupt lines (P6): when a line is served, what its service leaves, and the way back. What is said of every step stands in the files
 -- beside this one: the answers, the reads and stores, the ranges, demand 3, a run in two parts.
-use Rattle.std.specs.Prelude.{ℕ, zero, suc, ◌+◌, ◌≤◌, ◌≡◌, Bool, not, cond, ◌&&◌, List, [], ◌∷◌, ltb, get_or, set, length}
+use Rattle.std.specs.Prelude.{ℕ, zero, suc, ◌+◌, ◌≤◌, ◌≡◌, Bool, not, cond, ◌&&◌, List, [], ◌∷◌, ltb, get_or, set, length, Option, Some, None}
+use Rattle.instruction.specs.declared.Entry.{Entry}
 use Rattle.std.proofs.Math.Path.{refl, ap, sym}
 use Rattle.std.proofs.Common.{◌∙◌, arith, le-ltb, length-set, get_or-set_same, get_or-set_other}
 use Rattle.std.proofs.Math.Bool.{true, false}
@@ -10,12 +11,9 @@ use Rattle.registers.specs.Theorems.RoundTrip.{pulled_pushed}
 use Rattle.registers.specs.State.{set_s, set_pc, set_status, set_i, flags, up, down}
 use Rattle.instruction.specs.declared.Instruction.TheVariants.{RTI}
 use Rattle.instruction.specs.declared.AddressingMode.{AddressingMode}
-use Rattle.instruction.specs.declared.Decoded.{Decoded}
-use Rattle.instruction.specs.declared.Decoded.TheVariants.{Defined, Undefined}
 use Rattle.instruction.specs.Opcodes.{decoded}
 use Rattle.manual.specs.declared.Lines.{Lines}
 use Rattle.manual.specs.declared.Machine.{Machine}
-use Rattle.manual.specs.declared.Due.TheVariants.{Through, Quiet}
 use Rattle.manual.specs.declared.Stepped.{Stepped}
 use Rattle.manual.specs.declared.Reason.{Reason}
 use Rattle.manual.specs.declared.Reason.TheVariants.{NoCycleRoom}
@@ -80,9 +78,9 @@ one_nmi (suc k) lines s m s' m' h f =
 
 -- the opcode's share of a step: what a step was before there were lines, but for the level that it records
 abbrev pub opcode_step : Lines → Machine → Micro Stepped
-opcode_step lines s = cond (ltb highest_count s.cycles) (done (refused NoCycleRoom s)) (attend Quiet lines s)
+opcode_step lines s = cond (ltb highest_count s.cycles) (done (refused NoCycleRoom s)) (attend None lines s)
 
-quiet_step : (lines : Lines) (s : Machine) → due lines s ≡ Quiet → step_full lines s ≡ opcode_step lines s
+quiet_step : (lines : Lines) (s : Machine) → due lines s ≡ None → step_full lines s ≡ opcode_step lines s
 unfolding step_full
 quiet_step lines s e = rw e
 
@@ -106,19 +104,19 @@ module _ (lines₁ lines₂ : Lines) (r : Registers) (cycles : ℕ) (nmi₁ nmi�
   abbrev s₂ : Machine
   s₂ = machine_of r cycles nmi₂
 
-  act_apart : (d : Decoded) → unlevelled (exec (act d lines₁ s₁) m) ≡ unlevelled (exec (act d lines₂ s₂) m)
+  act_apart : (d : Option Entry) → unlevelled (exec (act d lines₁ s₁) m) ≡ unlevelled (exec (act d lines₂ s₂) m)
   unfolding act
-  act_apart (Defined e) =
+  act_apart (Some e) =
       ap unlevelled (exec_bind (perform e.instruction e.mode r) _ m) ∙ sym (ap unlevelled (exec_bind (perform e.instruction e.mode r) _ m))
-  act_apart Undefined = refl
+  act_apart None = refl
 
   -- That part looks at no level, present or last: all else that it gives is the same with any.
   pub levels_apart : unlevelled (exec (opcode_step lines₁ s₁) m) ≡ unlevelled (exec (opcode_step lines₂ s₂) m)
   unfolding attend
   levels_apart = by_room (ltb highest_count cycles)
     where
-      by_room : (t : Bool) → unlevelled (exec (cond t (done (refused NoCycleRoom s₁)) (attend Quiet lines₁ s₁)) m)
-          ≡ unlevelled (exec (cond t (done (refused NoCycleRoom s₂)) (attend Quiet lines₂ s₂)) m)
+      by_room : (t : Bool) → unlevelled (exec (cond t (done (refused NoCycleRoom s₁)) (attend None lines₁ s₁)) m)
+          ≡ unlevelled (exec (cond t (done (refused NoCycleRoom s₂)) (attend None lines₂ s₂)) m)
       by_room true = refl
       by_room false = act_apart (decoded (get_or m r.counter 0))
 
@@ -193,7 +191,7 @@ held_irq lines s m h =
     (second_not (not lines.irq) _ (ap not (served_masks h.1.0 s.registers m)))
 
 -- A step that serves a line reads the two bytes of its vector, in order, and nothing else; it has no first address, and takes 7 cycles.
-pub served_reads : (lines : Lines) (s : Machine) (m : List ℕ) (vector : ℕ) → s.cycles ≤ highest_count → due lines s ≡ Through vector
+pub served_reads : (lines : Lines) (s : Machine) (m : List ℕ) (vector : ℕ) → s.cycles ≤ highest_count → due lines s ≡ Some vector
     → reads (step_full lines s) m ≡ vector ∷ (vector + 1) ∷ []
 served_reads lines s m vector h e = step_full_reads lines s m ∙ rw (le-ltb _ _ h, e)
 

@@ -1,19 +1,15 @@
 -- The stores of a step are those of its list (StoreList), exactly and in order; at most three.
-use Rattle.std.specs.Prelude.{ℕ, ◌≤◌, ◌≡◌, refl, List, T, eqb, ltb, get_or, length}
+use Rattle.std.specs.Prelude.{ℕ, ◌≤◌, ◌≡◌, refl, List, T, eqb, ltb, get_or, length, Option, Some, None}
 use Rattle.std.proofs.Common.{ap, ◌∙◌, lit≤}
 use Rattle.registers.specs.declared.Registers.{Registers}
 use Rattle.instruction.specs.declared.Instruction.{Instruction}
 use Rattle.instruction.specs.declared.Instruction.TheVariants.{Read, Store, Modify, Branch, Internal, BRK, JMP, JSR, PHA, PHP, PLA, PLP, RTI, RTS}
 use Rattle.instruction.specs.declared.AddressingMode.{AddressingMode}
 use Rattle.instruction.specs.declared.Entry.{Entry}
-use Rattle.instruction.specs.declared.Decoded.{Decoded}
-use Rattle.instruction.specs.declared.Decoded.TheVariants.{Defined, Undefined}
 use Rattle.instruction.specs.Modes.{operand_bytes}
 use Rattle.instruction.specs.Opcodes.{decoded}
 use Rattle.manual.specs.declared.Lines.{Lines}
 use Rattle.manual.specs.declared.Machine.{Machine}
-use Rattle.manual.specs.declared.Due.{Due}
-use Rattle.manual.specs.declared.Due.TheVariants.{Through, Quiet}
 use Rattle.manual.specs.Micro.{Micro, accesses, stores_of, stores}
 use Rattle.manual.specs.Interrupts.{due}
 use Rattle.manual.specs.Stepping.{full_memory, highest_count, act, attend, step_full, step}
@@ -27,19 +23,19 @@ use Rattle.manual.proofs.Theorems.FewReads.{Few}
 abbrev StoresTo : {A : Type 0} → List ℕ → Micro A → List ℕ → Type 0
 StoresTo m p l = stores p m ≡ l
 
-act_stores : (d : Decoded) (lines : Lines) (s : Machine) (m : List ℕ) → ((e : Entry) → d ≡ Defined e → T (suits e.instruction e.mode))
+act_stores : (d : Option Entry) (lines : Lines) (s : Machine) (m : List ℕ) → ((e : Entry) → d ≡ Some e → T (suits e.instruction e.mode))
     → stores (act d lines s) m ≡ stored_by_entry d s.registers m
-act_stores (Defined e) lines s m h =
-    ap stores_of (act_accesses (Defined e) lines s m h)
+act_stores (Some e) lines s m h =
+    ap stores_of (act_accesses (Some e) lines s m h)
     ∙ stores_in_order (order_of e.instruction) (listed e.instruction e.mode s.registers m) (stored_to e.instruction e.mode s.registers m)
-act_stores Undefined lines s m h = ap stores_of (act_accesses Undefined lines s m h)
+act_stores None lines s m h = ap stores_of (act_accesses None lines s m h)
 
-attend_stores : (d : Due) (lines : Lines) (s : Machine) (m : List ℕ) → stores (attend d lines s) m ≡ stored_by_due d s.registers m
+attend_stores : (d : Option ℕ) (lines : Lines) (s : Machine) (m : List ℕ) → stores (attend d lines s) m ≡ stored_by_due d s.registers m
 unfolding accesses attend
-attend_stores (Through vector) lines s m =
-    ap stores_of (attend_accesses (Through vector) lines s m)
-    ∙ stores_in_order stores_first (listed_due (Through vector) s.registers m) (three_pushed s.registers)
-attend_stores Quiet lines s m =
+attend_stores (Some vector) lines s m =
+    ap stores_of (attend_accesses (Some vector) lines s m)
+    ∙ stores_in_order stores_first (listed_due (Some vector) s.registers m) (three_pushed s.registers)
+attend_stores None lines s m =
     let opcode = get_or m s.registers.counter 0 in
     act_stores (decoded opcode) lines s m (entry_suits opcode)
 
@@ -70,13 +66,13 @@ few_stored PHA mode r m = lit≤ tt
 few_stored PHP mode r m = lit≤ tt
 few_stored BRK mode r m = lit≤ tt
 
-few_by_entry : (d : Decoded) (r : Registers) (m : List ℕ) → length (stored_by_entry d r m) ≤ 3
-few_by_entry (Defined e) r m = few_stored e.instruction e.mode r m
-few_by_entry Undefined r m = lit≤ tt
+few_by_entry : (d : Option Entry) (r : Registers) (m : List ℕ) → length (stored_by_entry d r m) ≤ 3
+few_by_entry (Some e) r m = few_stored e.instruction e.mode r m
+few_by_entry None r m = lit≤ tt
 
-few_by_due : (d : Due) (r : Registers) (m : List ℕ) → length (stored_by_due d r m) ≤ 3
-few_by_due (Through vector) r m = lit≤ tt
-few_by_due Quiet r m = few_by_entry (decoded (get_or m r.counter 0)) r m
+few_by_due : (d : Option ℕ) (r : Registers) (m : List ℕ) → length (stored_by_due d r m) ≤ 3
+few_by_due (Some vector) r m = lit≤ tt
+few_by_due None r m = few_by_entry (decoded (get_or m r.counter 0)) r m
 
 -- A step stores at most three bytes.
 pub at_most_three_stores : (size : ℕ) (lines : Lines) (s : Machine) (m : List ℕ) → length (stores (step size lines s) m) ≤ 3

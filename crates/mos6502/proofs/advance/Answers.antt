@@ -24,7 +24,7 @@ pub returns : goal.returns
 returns c =
     let made : let a = c.args in Gives (turning a.bound (lines_from a.lines) (machine_from a.registers.now a.cycles.now)) a.memory.now c.turn-turned.result c.turn-turned.new.memory = rw (c.machine_from.ensures, c.lines_from.ensures) at c.turn-turned.ensures in
     let a = c.args in record {
-      gives = turn_gives _ _ _ _ _ made ∙ rw (c.number.ensures, c.hand_back.ensures.registers_after, c.hand_back.ensures.cycles_after);
+      gives = turn_gives _ _ _ _ _ made ∙ rw (c.from.ensures, c.hand_back.ensures.registers_after, c.hand_back.ensures.cycles_after);
       cycles_after = c.hand_back.ensures.cycles_after_2
           ∙ ap (λ (w : Travelled × List ℕ). (settled (machine_from a.registers.now a.cycles.now) w.0.ended).machine) (sym made);
     }

@@ -20,4 +20,4 @@ pub returns : goal.returns
 returns c =
     let made : let a = c.args in Gives (turning 1 (lines_from a.lines) (machine_from a.registers.now a.cycles.now)) a.memory.now c.turn-turned.result c.turn-turned.new.memory = rw (c.machine_from.ensures, c.lines_from.ensures) at c.turn-turned.ensures in
     step_on_full _ _ _ _ _ c.if-memory-ne-FULL_MEMORY.false made
-    ∙ rw (c.number.ensures, c.hand_back.ensures.registers_after, c.hand_back.ensures.cycles_after)
+    ∙ rw (c.from.ensures, c.hand_back.ensures.registers_after, c.hand_back.ensures.cycles_after)

@@ -1,5 +1,5 @@
 -- What an opcode does to the registers and the memory, with all the cycles that it takes.
-use Rattle.std.specs.Prelude.{ℕ, ◌+◌, ◌-◌}
+use Rattle.std.specs.Prelude.{ℕ, ◌+◌, ◌-◌, Option, Some, None}
 use Rattle.registers.specs.declared.Registers.{Registers}
 use Rattle.registers.specs.StatusByte.{bit}
 use Rattle.instruction.specs.declared.Entry.{Entry}
@@ -7,8 +7,6 @@ use Rattle.instruction.specs.declared.Instruction.TheVariants.{Read}
 use Rattle.instruction.specs.declared.AddressingMode.{AddressingMode}
 use Rattle.instruction.specs.declared.ReadOperation.{ReadOperation}
 use Rattle.instruction.specs.declared.ReadOperation.TheVariants.{ADC, SBC}
-use Rattle.instruction.specs.declared.Decoded.{Decoded}
-use Rattle.instruction.specs.declared.Decoded.TheVariants.{Defined, Undefined}
 use Rattle.opcode_numbers.specs.Inner.Operations.{operation_at, mode_at}
 use Rattle.manual.specs.declared.Effect.{Effect}
 use Rattle.manual.specs.Micro.{Micro, done, ◌>>=◌, fetch}
@@ -17,7 +15,6 @@ use Rattle.manual.specs.Instructions.{applied, advanced, perform}
 use Rattle.opcode_effects.specs.declared.Performed.{Performed}
 use Rattle.opcode_effects.specs.declared.Pending.{Pending}
 use Rattle.opcode_effects.specs.declared.Row.{Row}
-use Rattle.opcode_effects.specs.declared.Dispatched.{Dispatched}
 
 -- a row of the table by the numbers of its operation and its mode
 abbrev pub entry_of : ℕ → ℕ → ℕ → Entry
@@ -34,18 +31,18 @@ ticks_of cycles = 268435456 - cycles
 abbrev pub performed_from : ℕ → Effect → Performed
 performed_from cycles f = record { registers = f.registers; ticks = ticks_of (cycles + f.extra); first = f.first }
 
-abbrev pub performed : Entry → Registers → Micro Dispatched
+abbrev pub performed : Entry → Registers → Micro (Option Performed)
 performed e r = do
   effect ← perform e.instruction e.mode r
-  done (Dispatched.Performed (performed_from e.cycles effect))
+  done (Some (performed_from e.cycles effect))
 
-unfoldable pub dispatched : Decoded → Registers → Micro Dispatched
-dispatched (Defined e) r = performed e r
-dispatched Undefined r = done Dispatched.NotAnOpcode
+unfoldable pub dispatched : Option Entry → Registers → Micro (Option Performed)
+dispatched (Some e) r = performed e r
+dispatched None r = done None
 
 -- an operation on the byte that was read
-abbrev pub finished_by : ReadOperation → Pending → Dispatched
-finished_by k p = Dispatched.Performed (record { registers = applied k p.value p.registers; ticks = p.ticks; first = p.first })
+abbrev pub finished_by : ReadOperation → Pending → Option Performed
+finished_by k p = Some (record { registers = applied k p.value p.registers; ticks = p.ticks; first = p.first })
 
 -- the byte that an operation reads, and the registers past it
 unfoldable pub fetching : AddressingMode → ℕ → Registers → Micro Pending
@@ -55,8 +52,8 @@ fetching mode cycles r = do
   done (record { registers = advanced mode r; ticks = ticks_of (cycles + bit t.crossed); first = t.first; value = b })
 
 -- what a row comes to
-abbrev pub finished : Row → Dispatched
-finished (Row.Whole p) = Dispatched.Performed p
+abbrev pub finished : Row → Option Performed
+finished (Row.Whole p) = Some p
 finished (Row.Adding p) = finished_by ADC p
 finished (Row.Subtracting p) = finished_by SBC p
-finished Row.NotAnOpcode = Dispatched.NotAnOpcode
+finished Row.NotAnOpcode = None

@@ -1,11 +1,10 @@
 -- The opcodes that have a row, from the last: what the last arm knows that the opcode is not.
-use Rattle.std.specs.Prelude.{ℕ, ◌<◌, refl, List, [], ◌∷◌}
+use Rattle.std.specs.Prelude.{ℕ, ◌<◌, refl, List, [], ◌∷◌, None}
 use Rattle.laws.specs.Lemmas.Agree.{agree}
 use Rattle.laws.specs.Lemmas.LastArm.{NoneOf}
 use Rattle.registers.specs.declared.Registers.{Registers}
 use Rattle.instruction.specs.Opcodes.{decoded, rows}
 use Rattle.manual.specs.Micro.{Gives}
-use Rattle.opcode_effects.specs.declared.Dispatched.{Dispatched}
 use Rattle.opcode_effects.specs.Inner.Performing.{dispatched}
 use Rattle.opcode_effects.specs.Theorems.Rows.{left, no_row}
 
@@ -24,6 +23,6 @@ codes =
     ∷ []
 
 pub none_left : (opcode : ℕ) (r : Registers) (m : List ℕ) → opcode < 256 → NoneOf opcode codes
-    → Gives (dispatched (decoded opcode) r) m Dispatched.NotAnOpcode m
+    → Gives (dispatched (decoded opcode) r) m None m
 unfolding decoded rows
 none_left = no_row codes (agree (λ k. left codes k) (λ k. 0) 256 refl)

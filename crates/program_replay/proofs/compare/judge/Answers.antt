@@ -11,7 +11,7 @@ returns c =
       ← c.lines_at-lines.ensures,
       ← c.machine_at.ensures,
       c.step_by_record-stepped.ensures,
-      ← c.number.ensures,
+      ← c.from.ensures,
       eq-eqb _ _ c.if-number-after.false,
       ← decides _ _ _ c.same.ensures.alike c.same.ensures.told,
       c.compare.ensures,

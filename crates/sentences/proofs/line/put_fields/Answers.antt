@@ -8,6 +8,6 @@ use Rattle.sentences.proofs.line.put_fields.Goals as goal
 pub returns : goal.returns
 unfolding all_fields
 returns c =
-    let counted = then (rw c.number.ensures at c.put_decimal-after_reason.ensures) c.put_spaced_decimal-after_steps.ensures in
+    let counted = then (rw c.from.ensures at c.put_decimal-after_reason.ensures) c.put_spaced_decimal-after_steps.ensures in
     let wrote = then (then counted (then c.put_byte-after_space.ensures c.put_machine-after_machine.ensures)) c.put_byte.ensures in
     record { wrote = wrote; upper_bound = omega (arith, wrote.ends, fields_fit c.args.ended (omega arith) (omega arith)) }
