@@ -1,14 +1,14 @@
 // Records of a paper tape and of Intel HEX, as far as they are alike: a mark, then bytes of two capital hexadecimal digits.
 #![tactic(auto)]
 
-ghost use Rattle.std.specs.Prelude.{◌≡◌, ◌≤◌, drop, length};
+ghost use Rattle.std.specs.Prelude.{◌≡◌, ◌≤◌, ◌+◌, ◌*◌, ◌/◌, ◌%◌, nat_lt, ◌∷◌, ◌++◌, drop, length};
 ghost use Rattle.std.specs.List.{prefix_len};
 ghost use Rattle.tape_records.specs.Records.{bytes_of, record_of, separator};
 ghost use Rattle.tape_records.specs.Inner.Gaps.{gap_end};
 ghost use Rattle.tape_records.specs.Inner.Reading.{summed, sum_in, found, values_at};
-ghost use Rattle.text_writing.specs.Written.{Wrote};
+ghost use Rattle.text_writing.specs.Written.{Wrote, Writes};
+ghost use Rattle.text_writing.specs.Numerals.{hex2, hex4};
 
-use laws::answers::Refusal;
 use text_reading::{NOWHERE, read_byte, read_mark, read_word, rest};
 use text_writing::Writer;
 
@@ -19,11 +19,40 @@ pub struct Sum {
     pub next: usize,
 }
 
+// What a data record says before its data: where they go, and how many bytes they are.
+#[derive(Clone, Copy)]
+pub struct Head {
+    pub address: u16,
+    pub count: u8,
+}
+
+impl Head {
+    // How many characters the whole record has.
+    pub fn size(self) -> usize
+        ensures { result ≡ 11 + 2 * self.count }
+    {
+        11 + 2 * (self.count as usize)
+    }
+
+    // The sum of its bytes.
+    pub fn sum(self) -> u16
+        ensures { result ≡ self.count + self.address / 256 + self.address % 256 }
+    {
+        (self.count as u16) + self.address / 256 + self.address % 256
+    }
+
+    // Whether the data go past FFFF.
+    pub fn ends_past(self) -> bool
+        ensures { result ≡ nat_lt 65536 (self.address + self.count) }
+    {
+        65536 < (self.address as u32) + (self.count as u32)
+    }
+}
+
 // A record's numbers. The sum is that of all bytes but the last two, and these are `last`, as one number.
 #[derive(Clone, Copy)]
 pub struct Parts {
-    pub count: u8,
-    pub address: u16,
+    pub head: Head,
     pub sum: u16,
     pub last: u16,
 }
@@ -31,7 +60,7 @@ pub struct Parts {
 // What stands where a record has to begin, if it is good.
 #[derive(Clone, Copy)]
 pub enum Item {
-    Data { address: u16, count: u8 },
+    Data(Head),
     End,
 }
 
@@ -67,8 +96,10 @@ pub fn read_record(text: &[u8], mark: u8) -> Option<Parts>
     }
     let address = read_word(text, 3);
     Some(Parts {
-        count: count.value,
-        address: address.value,
+        head: Head {
+            address: address.value,
+            count: count.value,
+        },
         sum: sum.value,
         last: last.value,
     })
@@ -83,6 +114,15 @@ pub fn store_bytes(text: &[u8], count: u8, memory: &mut [u8], address: u16) -> u
         out.put_byte(read_byte(text, 2 * (index as usize)).value);
     }
     out.place()
+}
+
+// Writes a record's mark, its count and its address.
+pub fn put_head(out: &mut Writer, mark: u8, head: Head)
+    ensures { Writes out.old (mark ∷ hex2 head.count ++ hex4 head.address) out.new }
+{
+    out.put_byte(mark);
+    out.put_hex2(head.count);
+    out.put_hex4(head.address);
 }
 
 // CR, LF and NUL.

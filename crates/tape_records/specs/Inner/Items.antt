@@ -19,6 +19,6 @@ told (stretch r) = Data r.first (length r.bytes)
 
 -- the same of what the code answers
 abbrev pub told_in : Result Good Refusal → Told
-told_in (Ok (GoodData first count)) = Data first count
+told_in (Ok (GoodData head)) = Data head.address head.count
 told_in (Ok GoodEnd) = End
 told_in (Err reason) = Bad (answer_of reason)

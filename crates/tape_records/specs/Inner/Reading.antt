@@ -17,7 +17,7 @@ sum_in None = record { value = 0; next = nowhere }
 sum_in (Some sum) = sum
 
 abbrev pub parts_of : List ℕ → Parts
-parts_of bs = record { count = count bs; address = address bs; sum = sum bs; last = last bs }
+parts_of bs = record { head = record { address = address bs; count = count bs }; sum = sum bs; last = last bs }
 
 abbrev pub found : Option (List ℕ) → Told Parts
 found none = None

@@ -82,7 +82,7 @@ module _ (s : List ℕ) (fits : length s ≤ nowhere) (n : ℕ) (small : n < 256
 
   -- the parts of a record with the bytes bs
   parts_by : (bs : List ℕ) → bytes_of (n + 5) (drop 1 s) ≡ some bs → byte_of (drop 1 s) ≡ some n
-      → parts_of bs ≡ record { count = n; address = (word_at s 3).value; sum = (summed 0 1 body).value; last = (word_at s (summed 0 1 body).next).value }
+      → parts_of bs ≡ record { head = record { address = (word_at s 3).value; count = n }; sum = (summed 0 1 body).value; last = (word_at s (summed 0 1 body).next).value }
   parts_by bs e f =
       let five : n + 3 + 2 ≡ n + 5 = omega arith in
       let first : 1 + (n + 4) ≡ n + 5 = omega arith in
@@ -103,7 +103,7 @@ module _ (s : List ℕ) (fits : length s ≤ nowhere) (n : ℕ) (small : n < 256
 
   there : (o : Option (List ℕ)) → bytes_of (n + 5) (drop 1 s) ≡ o → byte_of (drop 1 s) ≡ some n → ((word_at s (summed 0 1 body).next).next ≢ nowhere)
       → found o
-      ≡ Some (record { count = n; address = (word_at s 3).value; sum = (summed 0 1 body).value; last = (word_at s (summed 0 1 body).next).value })
+      ≡ Some (record { head = record { address = (word_at s 3).value; count = n }; sum = (summed 0 1 body).value; last = (word_at s (summed 0 1 body).next).value })
   there none e f h = absurd (there_by body tail refl refl h (sym whole ∙ e))
   there (some bs) e f h = ap Some (parts_by bs e f)
 
@@ -127,7 +127,7 @@ module _ (mark : ℕ) (s : List ℕ) (fits : length s ≤ nowhere) {number : Byt
       cut_short h = rw (with_number.0, missing s fits number.value small (rw (lasts, sums) at h))
 
       pub whole_record : {place : Word} → place ≡ word_at s 3 → (last.next ≢ nowhere)
-          → found (record_of mark s) ≡ Some (record { count = number.value; address = place.value; sum = sum.value; last = last.value })
+          → found (record_of mark s) ≡ Some (record { head = record { address = place.value; count = number.value }; sum = sum.value; last = last.value })
       whole_record places h =
           rw (with_number.0, places, lasts, sums)
           (there s fits number.value small (bytes_of (number.value + 5) (drop 1 s)) refl with_number.1 (λ z. h (rw (lasts, sums) z)))
