@@ -1,7 +1,7 @@
 -- Laws of writers, for the proofs of those who write by them.
-use Rattle.std.specs.Prelude.{◌≡◌, refl, List, [], ◌∷◌, ◌++◌, ℕ, ◌+◌, ◌≤◌, ◌<◌, length, take, get_or}
-use Rattle.std.proofs.Common.{◌∙◌, arith}
-use Rattle.text_writing.specs.Written.{most, Wrote, Writes}
+use Rattle.std.specs.Prelude.{refl, List, [], ◌∷◌, ◌++◌, ℕ, ◌+◌, ◌≤◌, ◌<◌, length, take, get_or}
+use Rattle.std.proofs.Common.{◌∙◌}
+use Rattle.text_writing.specs.Written.{most, Writes}
 use Rattle.text_writing.specs.declared.Writer.{Writer}
 use Rattle.text_writing.specs.Lemmas.Texts.{then, within, nothing, more as more_wrote, whole as whole_wrote}
 
