@@ -88,6 +88,14 @@ pub fn names_from(rt: HostRuntime, from: usize) -> Option<usize>
     Some(from)
 }
 
+// Where the only name stands among the arguments from an index on: it may be missing, but there is no second.
+pub fn name_from(rt: HostRuntime, from: usize) -> Option<usize>
+    requires { from ≤ 255 }
+{
+    let index = names_from(rt, from)?;
+    (argument_count(rt) <= index + 1).then_some(index)
+}
+
 // The two last arguments, from an index on: IMAGE, and AFTER, which is the name of a file.
 pub fn image_and_after(rt: HostRuntime, from: usize) -> Option<Names>
     requires { from ≤ 255 }
@@ -128,4 +136,23 @@ pub fn steps_and_stop(rt: HostRuntime, program: &[u8], from: usize) -> Option<(u
         return None;
     };
     Some((steps, Goal::At(address)))
+}
+
+// Where the arguments begin after the option `--stop ADDRESS`, if that stands first, and where a run is meant to end. If no
+// address follows the program refuses it here.
+pub fn stop_option(rt: HostRuntime, program: &[u8]) -> Option<(usize, Goal)>
+    ensures { IfSome result (λ stop. stop.0 ≤ 3) }
+{
+    if !argument_is(rt, 1, b"--stop") {
+        return Some((1, Goal::Unnamed));
+    }
+    let Some(address) = address_argument(rt, 2) else {
+        refuse_for(
+            rt,
+            program,
+            b": after --stop comes an address, four capital hexadecimal digits\n",
+        );
+        return None;
+    };
+    Some((3, Goal::At(address)))
 }
