@@ -4,7 +4,7 @@ ghost use Rattle.std.specs.Prelude.{◌+◌, ◌≤◌, IfSome, length};
 use crate::outputs::refuse_for;
 use statuses::Goal;
 use std::env::{Env, FillError};
-use text_reading::{NOWHERE, whole_count, whole_word};
+use text_reading::{whole_count, whole_word};
 
 // As many bytes as a word may have that is looked at here: a path that the system takes is shorter.
 pub(crate) const LONGEST_WORD: usize = 4096;
@@ -55,15 +55,13 @@ pub fn is_standard_input(rt: HostRuntime, index: usize) -> bool {
 // An argument as an address, if it is there and is one.
 pub fn address_argument(rt: HostRuntime, index: usize) -> Option<u16> {
     let mut word = [0u8; LONGEST_WORD];
-    let address = whole_word(argument(rt, index, &mut word));
-    (address.next != NOWHERE).then_some(address.value)
+    whole_word(argument(rt, index, &mut word))
 }
 
 // An argument as a decimal number of 64 bits, likewise.
 pub fn count_argument(rt: HostRuntime, index: usize) -> Option<u64> {
     let mut word = [0u8; LONGEST_WORD];
-    let count = whole_count(argument(rt, index, &mut word));
-    (count.next != NOWHERE).then_some(count.value)
+    whole_count(argument(rt, index, &mut word))
 }
 
 // Whether an argument is an option: it begins with `-`, and `-` alone is none, but standard input.
