@@ -4,7 +4,7 @@ ghost use Rattle.std.specs.Prelude.{◌+◌, ◌≤◌, IfSome, length};
 use crate::outputs::refuse_for;
 use statuses::Goal;
 use std::env::{Env, FillError};
-use text_reading::{NOWHERE, whole_count, whole_word};
+use text_reading::{whole_count, whole_word};
 
 // As many bytes as a word may have that is looked at here: a path that the system takes is shorter.
 pub(crate) const LONGEST_WORD: usize = 4096;
@@ -55,15 +55,13 @@ pub fn is_standard_input(rt: HostRuntime, index: usize) -> bool {
 // An argument as an address, if it is there and is one.
 pub fn address_argument(rt: HostRuntime, index: usize) -> Option<u16> {
     let mut word = [0u8; LONGEST_WORD];
-    let address = whole_word(argument(rt, index, &mut word));
-    (address.next != NOWHERE).then_some(address.value)
+    whole_word(argument(rt, index, &mut word))
 }
 
 // An argument as a decimal number of 64 bits, likewise.
 pub fn count_argument(rt: HostRuntime, index: usize) -> Option<u64> {
     let mut word = [0u8; LONGEST_WORD];
-    let count = whole_count(argument(rt, index, &mut word));
-    (count.next != NOWHERE).then_some(count.value)
+    whole_count(argument(rt, index, &mut word))
 }
 
 // Whether an argument is an option: it begins with `-`, and `-` alone is none, but standard input.
@@ -86,6 +84,14 @@ pub fn names_from(rt: HostRuntime, from: usize) -> Option<usize>
         return None;
     }
     Some(from)
+}
+
+// Where the only name stands among the arguments from an index on: it may be missing, but there is no second.
+pub fn name_from(rt: HostRuntime, from: usize) -> Option<usize>
+    requires { from ≤ 255 }
+{
+    let index = names_from(rt, from)?;
+    (argument_count(rt) <= index + 1).then_some(index)
 }
 
 // The two last arguments, from an index on: IMAGE, and AFTER, which is the name of a file.
@@ -128,4 +134,23 @@ pub fn steps_and_stop(rt: HostRuntime, program: &[u8], from: usize) -> Option<(u
         return None;
     };
     Some((steps, Goal::At(address)))
+}
+
+// Where the arguments begin after the option `--stop ADDRESS`, if that stands first, and where a run is meant to end. If no
+// address follows the program refuses it here.
+pub fn stop_option(rt: HostRuntime, program: &[u8]) -> Option<(usize, Goal)>
+    ensures { IfSome result (λ stop. stop.0 ≤ 3) }
+{
+    if !argument_is(rt, 1, b"--stop") {
+        return Some((1, Goal::Unnamed));
+    }
+    let Some(address) = address_argument(rt, 2) else {
+        refuse_for(
+            rt,
+            program,
+            b": after --stop comes an address, four capital hexadecimal digits\n",
+        );
+        return None;
+    };
+    Some((3, Goal::At(address)))
 }

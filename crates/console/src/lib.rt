@@ -12,7 +12,7 @@ mod progress; // progress.rt: how far a long piece of work is, at a terminal
 
 pub use arguments::{
     Names, address_argument, argument, argument_count, argument_is, count_argument,
-    image_and_after, is_standard_input, names_from, steps_and_stop,
+    image_and_after, is_standard_input, name_from, names_from, steps_and_stop, stop_option,
 };
 pub use inputs::{Done, Input, close_input, path_of};
 pub use names::{put_input_name, put_name, put_printed};
