@@ -4,14 +4,14 @@ ghost use Rattle.std.specs.Io.{ReadsAtMost};
 ghost use Rattle.text_writing.specs.Counts.{IsPrefixLen};
 ghost use Rattle.console.specs.Failing.{FailureStays};
 
-use crate::arguments::{LONGEST_WORD, is_standard_input, put_argument};
+use crate::arguments::{LONGEST_WORD, argument, is_standard_input};
 use crate::names::put_input_name;
-use crate::outputs::{note_failure, say};
+use crate::outputs::Console;
 use crate::reasons::say_why;
 use statuses::{FAILED, NOT_OPENED};
 use std::fs::File;
 use std::io::{Read, Stdin};
-use text_writing::put_text;
+use text_writing::Writer;
 
 // How much of an input was read, and the status of what was done with it.
 #[derive(Clone, Copy)]
@@ -56,106 +56,98 @@ fn open_path(rt: HostRuntime, name: &[u8]) -> std::io::Result<File> {
     File::open(&rt, path_of(name)?)
 }
 
-// Opens a file, which sentences call `shown`. If it cannot be opened 66 is noted, and there is none.
-fn open_file(rt: HostRuntime, name: &[u8], shown: &[u8], failed: &mut u8) -> Option<Input>
-    ensures failure_stays { FailureStays failed.old failed.new }
-    ensures not_opened { IfNone result (failed.new ≢ 0) }
-{
-    match open_path(rt, name) {
-        Ok(file) => Some(Input::Named(file)),
-        Err(error) => {
-            say_why(rt, shown, error);
-            note_failure(NOT_OPENED, failed);
-            None
-        }
-    }
-}
-
-// Opens the input that an argument names. If it cannot be opened 66 is noted, and there is none.
-pub fn open_input(rt: HostRuntime, index: usize, failed: &mut u8) -> Option<Input>
-    ensures failure_stays { FailureStays failed.old failed.new }
-    ensures not_opened { IfNone result (failed.new ≢ 0) }
-{
-    if is_standard_input(rt, index) {
-        return Some(Input::Standard(rt.stdin()));
-    }
-    let mut shown = [0u8; LONGEST_WORD];
-    let size = put_input_name(rt, &mut shown, index);
-    let mut name = [0u8; LONGEST_WORD];
-    let length = put_argument(rt, &mut name, index);
-    if length == 0 {
-        note_failure(NOT_OPENED, failed);
-        say(rt, b"the name of an input is empty or too long\n", failed);
-        return None;
-    }
-    open_file(rt, &name[..length], &shown[..size], failed)
-}
-
 // Standard input stays open: it may be named again, and is at its end then.
 pub fn close_input(input: Input) {
     drop(input);
 }
 
-// Reads until the buffer is full or the input ends.
-fn read_from(
-    rt: HostRuntime,
-    input: &mut Input,
-    shown: &[u8],
-    buffer: &mut [u8],
-    failed: &mut u8,
-) -> usize
-    ensures prefix_len { IsPrefixLen result buffer.new }
-    ensures failure_stays { FailureStays failed.old failed.new }
-{
-    let mut size = 0;
-    while size < buffer.len() {
-        match input.read(&mut buffer[size..]) {
-            Ok(0) => break,
-            Ok(more) => size += more,
+impl Console {
+    // Opens a file, which sentences call `shown`. If it cannot be opened 66 is noted, and there is none.
+    fn open_file(&mut self, name: &[u8], shown: &[u8]) -> Option<Input>
+        ensures failure_stays { FailureStays self.old.failed self.new.failed }
+        ensures not_opened { IfNone result (self.new.failed ≢ 0) }
+    {
+        match open_path(self.rt, name) {
+            Ok(file) => Some(Input::Named(file)),
             Err(error) => {
-                say_why(rt, shown, error);
-                note_failure(FAILED, failed);
-                return 0;
+                say_why(self.rt, shown, error);
+                self.note_failure(NOT_OPENED);
+                None
             }
         }
     }
-    size
-}
 
-// Reads the input that an argument names, as far as it fits, and answers its size: whoever has to know whether it is longer
-// lends a byte more.
-pub fn read_input(rt: HostRuntime, index: usize, buffer: &mut [u8], failed: &mut u8) -> usize
-    ensures prefix_len { IsPrefixLen result buffer.new }
-    ensures failure_stays { FailureStays failed.old failed.new }
-{
-    match open_input(rt, index, failed) {
-        None => 0,
-        Some(mut input) => {
-            let mut shown = [0u8; LONGEST_WORD];
-            let length = put_input_name(rt, &mut shown, index);
-            let size = read_from(rt, &mut input, &shown[..length], buffer, failed);
-            close_input(input);
-            size
+    // Opens the input that an argument names. If it cannot be opened 66 is noted, and there is none.
+    pub fn open_input(&mut self, index: usize) -> Option<Input>
+        ensures failure_stays { FailureStays self.old.failed self.new.failed }
+        ensures not_opened { IfNone result (self.new.failed ≢ 0) }
+    {
+        if is_standard_input(self.rt, index) {
+            return Some(Input::Standard(self.rt.stdin()));
         }
+        let mut shown = [0u8; LONGEST_WORD];
+        let mut out = Writer::new(&mut shown);
+        put_input_name(self.rt, &mut out, index);
+        let size = out.place();
+        let mut word = [0u8; LONGEST_WORD];
+        let name = argument(self.rt, index, &mut word);
+        if name.is_empty() {
+            self.note_failure(NOT_OPENED);
+            self.say(b"the name of an input is empty or too long\n");
+            return None;
+        }
+        self.open_file(name, &shown[..size])
     }
-}
 
-// Reads the input that an argument names, and puts it into a second buffer too, for whoever works on it there and has to
-// know afterwards what was read.
-pub fn read_two(
-    rt: HostRuntime,
-    index: usize,
-    input: &mut [u8],
-    copy: &mut [u8],
-    failed: &mut u8,
-) -> usize
-    requires { length input.old ≤ length copy.old }
-    ensures prefix_len { IsPrefixLen result input.new }
-    ensures copy_after { take result copy.new ≡ take result input.new }
-    ensures prefix_len_2 { IsPrefixLen result copy.new }
-    ensures failure_stays { FailureStays failed.old failed.new }
-{
-    let size = read_input(rt, index, input, failed);
-    put_text(copy, 0, &input[..size]);
-    size
+    // Reads until the buffer is full or the input ends.
+    fn read_from(&mut self, input: &mut Input, shown: &[u8], buffer: &mut [u8]) -> usize
+        ensures prefix_len { IsPrefixLen result buffer.new }
+        ensures failure_stays { FailureStays self.old.failed self.new.failed }
+    {
+        let mut size = 0;
+        while size < buffer.len() {
+            match input.read(&mut buffer[size..]) {
+                Ok(0) => break,
+                Ok(more) => size += more,
+                Err(error) => {
+                    say_why(self.rt, shown, error);
+                    self.note_failure(FAILED);
+                    return 0;
+                }
+            }
+        }
+        size
+    }
+
+    // Reads the input that an argument names, as far as it fits, and answers its size: whoever has to know whether it is longer
+    // lends a byte more.
+    pub fn read_input(&mut self, index: usize, buffer: &mut [u8]) -> usize
+        ensures prefix_len { IsPrefixLen result buffer.new }
+        ensures failure_stays { FailureStays self.old.failed self.new.failed }
+    {
+        let Some(mut input) = self.open_input(index) else {
+            return 0;
+        };
+        let mut shown = [0u8; LONGEST_WORD];
+        let mut out = Writer::new(&mut shown);
+        put_input_name(self.rt, &mut out, index);
+        let length = out.place();
+        let size = self.read_from(&mut input, &shown[..length], buffer);
+        close_input(input);
+        size
+    }
+
+    // Reads the input that an argument names, and puts it into a second buffer too, for whoever works on it there and has to
+    // know afterwards what was read.
+    pub fn read_two(&mut self, index: usize, input: &mut [u8], copy: &mut [u8]) -> usize
+        requires { length input.old ≤ length copy.old }
+        ensures prefix_len { IsPrefixLen result input.new }
+        ensures copy_after { take result copy.new ≡ take result input.new }
+        ensures prefix_len_2 { IsPrefixLen result copy.new }
+        ensures failure_stays { FailureStays self.old.failed self.new.failed }
+    {
+        let size = self.read_input(index, input);
+        copy[..size].copy_from_slice(&input[..size]);
+        size
+    }
 }

@@ -5,35 +5,51 @@ ghost use Rattle.console.specs.Failing.{FailureStays};
 
 use crate::reasons::say_why;
 use statuses::{FAILED, LONGEST_STATUS, WRONG_USAGE, first_of, put_status};
+use text_writing::Writer;
 
 // The descriptor on which `run` waits for the status.
 const STATUS_FILENO: i32 = 3;
 
-// Notes a failure in the cell, unless something had failed before.
-pub fn note_failure(status: u8, failed: &mut u8)
-    ensures failed_after { failed.new ≡ first_of failed.old status }
-    ensures failure_stays { FailureStays failed.old failed.new }
-{
-    let before = *failed;
-    *failed = first_of(before, status);
+// The system, and the first status that says that something failed there: 0 before there is one.
+#[derive(Drop)]
+pub struct Console {
+    pub rt: HostRuntime,
+    pub failed: u8,
 }
 
-// Writes to standard output. If that fails it is said, and 74 is noted.
-pub fn write_output(rt: HostRuntime, text: &[u8], failed: &mut u8)
-    ensures { FailureStays failed.old failed.new }
-{
-    if let Err(error) = rt.stdout().write_all(text) {
-        say_why(rt, b"standard output", error);
-        note_failure(FAILED, failed);
+impl Console {
+    // A console on which nothing has failed.
+    pub fn new(rt: HostRuntime) -> Console
+        ensures { result.failed ≡ 0 }
+    {
+        Console { rt, failed: 0 }
     }
-}
 
-// Writes to standard error. If that fails 74 is noted: a sentence is part of the answer.
-pub fn say(rt: HostRuntime, text: &[u8], failed: &mut u8)
-    ensures { FailureStays failed.old failed.new }
-{
-    if rt.stderr().write_all(text).is_err() {
-        note_failure(FAILED, failed);
+    // Notes a failure, unless something had failed before.
+    pub fn note_failure(&mut self, status: u8)
+        ensures failed_after { self.new.failed ≡ first_of self.old.failed status }
+        ensures failure_stays { FailureStays self.old.failed self.new.failed }
+    {
+        self.failed = first_of(self.failed, status);
+    }
+
+    // Writes to standard output. If that fails it is said, and 74 is noted.
+    pub fn write_output(&mut self, text: &[u8])
+        ensures { FailureStays self.old.failed self.new.failed }
+    {
+        if let Err(error) = self.rt.stdout().write_all(text) {
+            say_why(self.rt, b"standard output", error);
+            self.note_failure(FAILED);
+        }
+    }
+
+    // Writes to standard error. If that fails 74 is noted: a sentence is part of the answer.
+    pub fn say(&mut self, text: &[u8])
+        ensures { FailureStays self.old.failed self.new.failed }
+    {
+        if self.rt.stderr().write_all(text).is_err() {
+            self.note_failure(FAILED);
+        }
     }
 }
 
@@ -61,6 +77,8 @@ pub(crate) fn refuse_for(rt: HostRuntime, program: &[u8], sentence: &[u8]) -> u8
 // The last thing that a program does. It may have been started by hand, without that descriptor: then nobody waits.
 pub fn hand_over(status: u8) {
     let mut text = [0u8; LONGEST_STATUS];
-    let size = put_status(&mut text, 0, status);
+    let mut out = Writer::new(&mut text);
+    put_status(&mut out, status);
+    let size = out.place();
     io::write_all(STATUS_FILENO, &text[..size]);
 }

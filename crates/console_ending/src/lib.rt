@@ -5,35 +5,28 @@ ghost use Rattle.std.specs.Prelude.{◌≡◌};
 ghost use Rattle.statuses.specs.Statuses.{end_status};
 ghost use Rattle.console.specs.Failing.{FailureStays};
 
-use console::say_of;
+use console::Console;
 use manual::Ended;
 use sentences::{LONGEST_SENTENCE, put_refused, put_sentence};
 use statuses::{Goal, end_status};
 
 // Says how the run of the image that an argument names ended, and answers the status of that end. `image` is the one that the
 // run left.
-pub fn say_ending(
-    rt: HostRuntime,
-    index: usize,
-    goal: Goal,
-    ended: Ended,
-    image: &[u8],
-    failed: &mut u8,
-) -> u8
+pub fn say_ending(console: &mut Console, index: usize, goal: Goal, ended: Ended, image: &[u8]) -> u8
     ensures value { result ≡ end_status goal ended }
-    ensures failure_stays { FailureStays failed.old failed.new }
+    ensures failure_stays { FailureStays console.old.failed console.new.failed }
 {
     let mut text = [0u8; LONGEST_SENTENCE];
     let size = put_sentence(&mut text, 0, goal, ended, image);
-    say_of(rt, index, &text[..size], failed);
+    console.say_of(index, &text[..size]);
     end_status(goal, ended)
 }
 
 // Says what an image is that is not 65,536 bytes long, for a program that makes no run of it.
-pub fn say_refused(rt: HostRuntime, index: usize, image: &[u8], failed: &mut u8)
-    ensures { FailureStays failed.old failed.new }
+pub fn say_refused(console: &mut Console, index: usize, image: &[u8])
+    ensures { FailureStays console.old.failed console.new.failed }
 {
     let mut text = [0u8; LONGEST_SENTENCE];
     let size = put_refused(&mut text, 0, image);
-    say_of(rt, index, &text[..size], failed);
+    console.say_of(index, &text[..size]);
 }

@@ -7,10 +7,7 @@ ghost use Rattle.text_writing.specs.Counts.{IsPrefixLen};
 ghost use Rattle.statuses.specs.Statuses.{first_of};
 ghost use Rattle.console.specs.Failing.{FailureStays};
 
-use console::{
-    Names, is_standard_input, note_failure, path_of, put_argument, put_name, read_two, say_of,
-    say_why,
-};
+use console::{Console, Names, is_standard_input, path_of, put_argument, put_name, say_why};
 use names::{folder_end, put_beside, put_target};
 use statuses::{FAILED, first_of};
 use std::fs;
@@ -37,11 +34,11 @@ fn put_shown(rt: HostRuntime, out: &mut [u8], index: usize) -> usize
 }
 
 // Says why a call of the system failed, and notes it.
-fn fail(rt: HostRuntime, shown: &[u8], error: Error, failed: &mut u8)
-    ensures { FailureStays failed.old failed.new }
+fn fail(console: &mut Console, shown: &[u8], error: Error)
+    ensures { FailureStays console.old.failed console.new.failed }
 {
-    say_why(rt, shown, error);
-    note_failure(FAILED, failed);
+    say_why(console.rt, shown, error);
+    console.note_failure(FAILED);
 }
 
 // The input that an argument names, which is standard input if that is `-` or missing.
@@ -63,20 +60,19 @@ pub fn is_same_file(rt: HostRuntime, after: usize, input: usize) -> bool {
 }
 
 // To replace a device, a pipe or a folder would be to lose it; and so a file to which this program's own lines go.
-fn test_kind(rt: HostRuntime, index: usize, name: &[u8], failed: &mut u8)
-    ensures { FailureStays failed.old failed.new }
+fn test_kind(console: &mut Console, index: usize, name: &[u8])
+    ensures { FailureStays console.old.failed console.new.failed }
 {
-    let known = known_file(rt, name);
-    let own = known.is(known_file(rt, b"/dev/stdout")) || known.is(known_file(rt, b"/dev/stderr"));
+    let known = known_file(console.rt, name);
+    let own = known.is(known_file(console.rt, b"/dev/stdout"))
+        || known.is(known_file(console.rt, b"/dev/stderr"));
     if known.mode == 0 || known.is_regular() && !own {
         return;
     }
-    note_failure(FAILED, failed);
-    say_of(
-        rt,
+    console.note_failure(FAILED);
+    console.say_of(
         index,
         b"this is a folder, a device, a pipe or where the program's lines go, and no file to replace\n",
-        failed,
     );
 }
 
@@ -89,13 +85,13 @@ fn open_update(rt: HostRuntime, name: &[u8]) -> std::io::Result<File> {
 }
 
 // A name has to end in the name of a file. What is there may be written, or nothing is there.
-fn test_open(rt: HostRuntime, name: &[u8], shown: &[u8], failed: &mut u8)
-    ensures { FailureStays failed.old failed.new }
+fn test_open(console: &mut Console, name: &[u8], shown: &[u8])
+    ensures { FailureStays console.old.failed console.new.failed }
 {
-    match open_update(rt, name) {
+    match open_update(console.rt, name) {
         Ok(_) => {}
         Err(error) if error.kind() == ErrorKind::NotFound && folder_end(name) < name.len() => {}
-        Err(error) => fail(rt, shown, error, failed),
+        Err(error) => fail(console, shown, error),
     }
 }
 
@@ -115,14 +111,14 @@ fn remove(rt: HostRuntime, name: &[u8]) {
 }
 
 // A file can be made in the folder.
-fn test_folder(rt: HostRuntime, folder: &[u8], shown: &[u8], failed: &mut u8)
-    ensures { FailureStays failed.old failed.new }
+fn test_folder(console: &mut Console, folder: &[u8], shown: &[u8])
+    ensures { FailureStays console.old.failed console.new.failed }
 {
     let mut part = [0u8; LONGEST_NAME];
-    let size = put_beside(rt, &mut part, folder);
-    match create(rt, &part[..size]) {
-        Ok(_) => remove(rt, &part[..size]),
-        Err(error) => fail(rt, shown, error, failed),
+    let size = put_beside(console.rt, &mut part, folder);
+    match create(console.rt, &part[..size]) {
+        Ok(_) => remove(console.rt, &part[..size]),
+        Err(error) => fail(console, shown, error),
     }
 }
 
@@ -142,36 +138,36 @@ fn sync(rt: HostRuntime, folder: &[u8]) -> std::io::Result<()> {
 }
 
 // Syncs a folder, so that a name in it reaches the disk.
-fn sync_folder(rt: HostRuntime, folder: &[u8], shown: &[u8], failed: &mut u8)
-    ensures { FailureStays failed.old failed.new }
+fn sync_folder(console: &mut Console, folder: &[u8], shown: &[u8])
+    ensures { FailureStays console.old.failed console.new.failed }
 {
-    if let Err(error) = sync(rt, folder) {
-        fail(rt, shown, error, failed);
+    if let Err(error) = sync(console.rt, folder) {
+        fail(console, shown, error);
     }
 }
 
 // Tests whether the file that an argument names could be written, and says why not. So a long run does not begin in vain.
-pub fn can_replace(rt: HostRuntime, index: usize, failed: &mut u8)
-    ensures { FailureStays failed.old failed.new }
+pub fn can_replace(console: &mut Console, index: usize)
+    ensures { FailureStays console.old.failed console.new.failed }
 {
     let mut shown = [0u8; LONGEST_NAME];
-    let size = put_shown(rt, &mut shown, index);
+    let size = put_shown(console.rt, &mut shown, index);
     let mut name = [0u8; LONGEST_NAME];
-    let length = put_target(rt, &mut name, index);
-    test_kind(rt, index, &name[..length], failed);
-    if *failed != 0 {
+    let length = put_target(console.rt, &mut name, index);
+    test_kind(console, index, &name[..length]);
+    if console.failed != 0 {
         return;
     }
-    test_open(rt, &name[..length], &shown[..size], failed);
-    if *failed != 0 {
+    test_open(console, &name[..length], &shown[..size]);
+    if console.failed != 0 {
         return;
     }
     let end = folder_end(&name[..length]);
-    test_folder(rt, &name[..end], &shown[..size], failed);
-    if *failed != 0 {
+    test_folder(console, &name[..end], &shown[..size]);
+    if console.failed != 0 {
         return;
     }
-    sync_folder(rt, &name[..end], &shown[..size], failed);
+    sync_folder(console, &name[..end], &shown[..size]);
 }
 
 // Writes to a new file, gives it the mode of the one that it replaces, and sees to it that all of it reaches the disk. What is
@@ -198,95 +194,86 @@ fn fill_and_rename(
 }
 
 // The new file takes the name, or it is removed.
-fn replace_by(
-    rt: HostRuntime,
-    part: &[u8],
-    name: &[u8],
-    shown: &[u8],
-    bytes: &[u8],
-    failed: &mut u8,
-)
-    ensures { FailureStays failed.old failed.new }
+fn replace_by(console: &mut Console, part: &[u8], name: &[u8], shown: &[u8], bytes: &[u8])
+    ensures { FailureStays console.old.failed console.new.failed }
 {
-    let known = known_file(rt, name);
-    match create(rt, part) {
+    let known = known_file(console.rt, name);
+    match create(console.rt, part) {
         Ok(file) => {
-            if let Err(error) = fill_and_rename(rt, file, known.mode, part, name, bytes) {
-                fail(rt, shown, error, failed);
-                remove(rt, part);
+            if let Err(error) = fill_and_rename(console.rt, file, known.mode, part, name, bytes) {
+                fail(console, shown, error);
+                remove(console.rt, part);
             }
         }
-        Err(error) => fail(rt, shown, error, failed),
+        Err(error) => fail(console, shown, error),
     }
 }
 
 // Reads an image into two buffers, and tests AFTER before anything is run.
 pub fn read_and_test(
-    rt: HostRuntime,
+    console: &mut Console,
     names: Names,
     input: &mut [u8],
     copy: &mut [u8],
-    failed: &mut u8,
 ) -> usize
     requires { length input.old ≤ length copy.old }
     ensures prefix_len { IsPrefixLen result input.new }
     ensures copy_after { take result copy.new ≡ take result input.new }
     ensures prefix_len_2 { IsPrefixLen result copy.new }
-    ensures failure_stays { FailureStays failed.old failed.new }
+    ensures failure_stays { FailureStays console.old.failed console.new.failed }
 {
-    let size = read_two(rt, names.image, input, copy, failed);
-    if *failed != 0 {
+    let size = console.read_two(names.image, input, copy);
+    if console.failed != 0 {
         return size;
     }
-    can_replace(rt, names.after, failed);
+    can_replace(console, names.after);
     size
 }
 
 // Writes the file that an argument names, or leaves what is there and says why. Nothing may have failed before.
-fn put_file(rt: HostRuntime, index: usize, bytes: &[u8], failed: &mut u8)
-    requires { failed.old ≡ 0 }
-    ensures { FailureStays failed.old failed.new }
+fn put_file(console: &mut Console, index: usize, bytes: &[u8])
+    requires { console.old.failed ≡ 0 }
+    ensures { FailureStays console.old.failed console.new.failed }
 {
     let mut shown = [0u8; LONGEST_NAME];
-    let size = put_shown(rt, &mut shown, index);
+    let size = put_shown(console.rt, &mut shown, index);
     let mut name = [0u8; LONGEST_NAME];
-    let length = put_target(rt, &mut name, index);
+    let length = put_target(console.rt, &mut name, index);
     let end = folder_end(&name[..length]);
     let mut part = [0u8; LONGEST_NAME];
-    let part_size = put_beside(rt, &mut part, &name[..end]);
+    let part_size = put_beside(console.rt, &mut part, &name[..end]);
     replace_by(
-        rt,
+        console,
         &part[..part_size],
         &name[..length],
         &shown[..size],
         bytes,
-        failed,
     );
-    if *failed != 0 {
+    if console.failed != 0 {
         return;
     }
-    sync_folder(rt, &name[..end], &shown[..size], failed);
+    sync_folder(console, &name[..end], &shown[..size]);
 }
 
 // Says that the file that an argument names is left as it was, and answers the status of the work.
-pub fn not_written(rt: HostRuntime, index: usize, status: u8, failed: &mut u8) -> u8
-    ensures value { result ≡ first_of failed.new status }
-    ensures failure_stays { FailureStays failed.old failed.new }
+pub fn not_written(console: &mut Console, index: usize, status: u8) -> u8
+    ensures value { result ≡ first_of console.new.failed status }
+    ensures failure_stays { FailureStays console.old.failed console.new.failed }
 {
-    say_of(rt, index, b"not written\n", failed);
-    first_of(*failed, status)
+    console.say_of(index, b"not written\n");
+    first_of(console.failed, status)
 }
 
 // Writes that file, or says that it is left as it was, and answers the status of the work. That is 0: no other is kept.
-pub fn replace(rt: HostRuntime, index: usize, status: u8, bytes: &[u8], failed: &mut u8) -> u8
+pub fn replace(console: &mut Console, index: usize, status: u8, bytes: &[u8]) -> u8
     requires status_value { status ≡ 0 }
-    requires failed_value { failed.old ≡ 0 }
-    ensures value { result ≡ first_of failed.new status }
-    ensures failure_stays { FailureStays failed.old failed.new }
+    requires failed_value { console.old.failed ≡ 0 }
+    ensures value { result ≡ first_of console.new.failed status }
+    ensures failure_stays { FailureStays console.old.failed console.new.failed }
 {
-    put_file(rt, index, bytes, failed);
-    if *failed != 0 {
-        return not_written(rt, index, status, failed);
+    put_file(console, index, bytes);
+    if console.failed != 0 {
+        return not_written(console, index, status);
     }
     status
 }

@@ -6,7 +6,7 @@ ghost use Rattle.manual.specs.Stepping.{long_run};
 ghost use Rattle.image_run.specs.Report.{long_image_run};
 ghost use Rattle.console.specs.Failing.{FailureStays};
 
-use console::{show_progress, write_output};
+use console::{Console, show_progress};
 use image_run::start_image;
 use manual::{Ended, FULL_MEMORY, Machine};
 use std::io::IsTerminal;
@@ -27,43 +27,42 @@ fn text_buffer() -> [u8; 52000]
 
 // A part of a run, with its lines.
 fn show_part(
-    rt: HostRuntime,
+    console: &mut Console,
     view: View,
     machine: Machine,
     bound: u64,
     image: &mut [u8],
-    failed: &mut u8,
 ) -> Ended
     requires { bound ≤ 1000 }
     ensures gives { Gives (long_run (length image.old) bound idle machine) image.old result image.new }
-    ensures failure_stays { FailureStays failed.old failed.new }
+    ensures failure_stays { FailureStays console.old.failed console.new.failed }
 {
     let mut text = text_buffer();
     let shown = put_steps(&mut text, view, machine, bound, image);
     let ended = shown.ended;
     let size = shown.size;
-    write_output(rt, &text[..size], failed);
+    console.write_output(&text[..size]);
     ended
 }
 
 // The line of the state that a run starts with. An image of another length has none.
-fn write_start(rt: HostRuntime, machine: Machine, length: usize, failed: &mut u8)
-    ensures { FailureStays failed.old failed.new }
+fn write_start(console: &mut Console, machine: Machine, length: usize)
+    ensures { FailureStays console.old.failed console.new.failed }
 {
     if length != FULL_MEMORY {
         return;
     }
     let mut text = [0u8; LONGEST_LINE];
     let size = put_line(&mut text, 0, machine);
-    write_output(rt, &text[..size], failed);
+    console.write_output(&text[..size]);
 }
 
 // What stands before the lines of the steps.
-fn write_head(rt: HostRuntime, view: View, machine: Machine, length: usize, failed: &mut u8)
-    ensures { FailureStays failed.old failed.new }
+fn write_head(console: &mut Console, view: View, machine: Machine, length: usize)
+    ensures { FailureStays console.old.failed console.new.failed }
 {
     match view {
-        View::States => write_start(rt, machine, length, failed),
+        View::States => write_start(console, machine, length),
         View::Steps => {}
     }
 }
@@ -81,22 +80,15 @@ fn tell_progress(rt: HostRuntime, view: View, made: u64) {
 }
 
 // A run of at most `count` steps, part by part. It is broken off if its lines cannot be written.
-fn show_on(
-    rt: HostRuntime,
-    view: View,
-    start: Machine,
-    count: u64,
-    image: &mut [u8],
-    failed: &mut u8,
-) -> Ended
-    ensures gives { failed.new ≡ 0 → Gives (long_run (length image.old) count idle start) image.old result image.new }
-    ensures failure_stays { FailureStays failed.old failed.new }
+fn show_on(console: &mut Console, view: View, start: Machine, count: u64, image: &mut [u8]) -> Ended
+    ensures gives { console.new.failed ≡ 0 → Gives (long_run (length image.old) count idle start) image.old result image.new }
+    ensures failure_stays { FailureStays console.old.failed console.new.failed }
 {
     let mut machine = start;
     let mut made: u64 = 0;
     while PART < count - made {
-        let ended = show_part(rt, view, machine, PART, image, failed);
-        if *failed != 0 {
+        let ended = show_part(console, view, machine, PART, image);
+        if console.failed != 0 {
             return ended;
         }
         let reason = ended.reason;
@@ -105,25 +97,19 @@ fn show_on(
         }
         machine = ended.machine;
         made += PART;
-        tell_progress(rt, view, made);
+        tell_progress(console.rt, view, made);
     }
-    let last = show_part(rt, view, machine, count - made, image, failed);
+    let last = show_part(console, view, machine, count - made, image);
     let reason = last.reason;
     Ended::new(reason, made + last.steps, last.machine)
 }
 
 // The run of an image, with its lines.
-pub(crate) fn show_run(
-    rt: HostRuntime,
-    view: View,
-    count: u64,
-    image: &mut [u8],
-    failed: &mut u8,
-) -> Ended
-    ensures gives { failed.new ≡ 0 → Gives (long_image_run count (length image.old)) image.old result image.new }
-    ensures failure_stays { FailureStays failed.old failed.new }
+pub(crate) fn show_run(console: &mut Console, view: View, count: u64, image: &mut [u8]) -> Ended
+    ensures gives { console.new.failed ≡ 0 → Gives (long_image_run count (length image.old)) image.old result image.new }
+    ensures failure_stays { FailureStays console.old.failed console.new.failed }
 {
     let machine = start_image(image);
-    write_head(rt, view, machine, image.len(), failed);
-    show_on(rt, view, machine, count, image, failed)
+    write_head(console, view, machine, image.len());
+    show_on(console, view, machine, count, image)
 }

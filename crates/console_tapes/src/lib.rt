@@ -7,7 +7,7 @@ ghost use Rattle.std.specs.Prelude.{◌≤◌, ◌≡◌, take};
 ghost use Rattle.statuses.specs.Statuses.{first_of};
 ghost use Rattle.tape_moving.specs.Moving.{moved_from};
 
-use console::{Done, note_failure, read_input, say_of, write_output};
+use console::{Console, Done};
 use laws::answers::*;
 use statuses::first_of;
 use tape_loading::{Format, LONGEST_SENTENCE, Verdict, format_of, put_sentence};
@@ -15,57 +15,43 @@ use tape_moving::move_text;
 use tape_paper::tape_buffer;
 
 // Reads it into a tape buffer, and answers its size. One that fills the buffer may be longer, and is refused.
-pub fn read_tape_input(rt: HostRuntime, index: usize, tape: &mut [u8], failed: &mut u8) -> usize
+pub fn read_tape_input(console: &mut Console, index: usize, tape: &mut [u8]) -> usize
     ensures prefix_len { IsPrefixLen result tape.new }
-    ensures failure_stays { FailureStays failed.old failed.new }
+    ensures failure_stays { FailureStays console.old.failed console.new.failed }
 {
-    let size = read_input(rt, index, tape, failed);
+    let size = console.read_input(index, tape);
     if size < tape.len() {
         return size;
     }
-    note_failure(NO_ROOM, failed);
-    say_of(
-        rt,
-        index,
-        b"refused: it has more than 1048575 characters\n",
-        failed,
-    );
+    console.note_failure(NO_ROOM);
+    console.say_of(index, b"refused: it has more than 1048575 characters\n");
     0
 }
 
 // Says what a reader found of a text that it took for one of a format.
-pub fn say_verdict(rt: HostRuntime, index: usize, format: Format, verdict: Verdict, failed: &mut u8)
-    ensures { FailureStays failed.old failed.new }
+pub fn say_verdict(console: &mut Console, index: usize, format: Format, verdict: Verdict)
+    ensures { FailureStays console.old.failed console.new.failed }
 {
     let mut text = [0u8; LONGEST_SENTENCE];
     let size = put_sentence(&mut text, 0, format, verdict);
-    say_of(rt, index, &text[..size], failed);
+    console.say_of(index, &text[..size]);
 }
 
-fn explain(rt: HostRuntime, index: usize, from: Format, verdict: Verdict, failed: &mut u8)
-    ensures { FailureStays failed.old failed.new }
+fn explain(console: &mut Console, index: usize, from: Format, verdict: Verdict)
+    ensures { FailureStays console.old.failed console.new.failed }
 {
     if verdict.answer == NO_ROOM {
-        return say_of(
-            rt,
+        return console.say_of(
             index,
             b"refused: the new text has more than 1048576 characters\n",
-            failed,
         );
     }
-    say_verdict(rt, index, from, verdict, failed);
+    say_verdict(console, index, from, verdict);
 }
 
 // Says of a text that is refused from its start on whether it is one for the other program.
-fn point_out(
-    rt: HostRuntime,
-    index: usize,
-    from: Format,
-    verdict: Verdict,
-    text: &[u8],
-    failed: &mut u8,
-)
-    ensures { FailureStays failed.old failed.new }
+fn point_out(console: &mut Console, index: usize, from: Format, verdict: Verdict, text: &[u8])
+    ensures { FailureStays console.old.failed console.new.failed }
 {
     if verdict.answer != MALFORMED_RECORD || verdict.good != 0 {
         return;
@@ -74,21 +60,14 @@ fn point_out(
         Format::Tape => match format_of(text) {
             Format::Tape => {}
             Format::Hex => {
-                say_of(
-                    rt,
-                    index,
-                    b"it is Intel HEX: ./run tape makes a tape of it\n",
-                    failed,
-                );
+                console.say_of(index, b"it is Intel HEX: ./run tape makes a tape of it\n");
             }
         },
         Format::Hex => match format_of(text) {
             Format::Tape => {
-                say_of(
-                    rt,
+                console.say_of(
                     index,
                     b"it is no Intel HEX: ./run hex makes that of a tape\n",
-                    failed,
                 );
             }
             Format::Hex => {}
@@ -97,48 +76,40 @@ fn point_out(
 }
 
 // Prints the moved text, which is put into `out`. Nothing is said to be done if it could not be written.
-fn print_moved(
-    rt: HostRuntime,
-    index: usize,
-    from: Format,
-    text: &[u8],
-    out: &mut [u8],
-    failed: &mut u8,
-) -> u8
-    ensures { result ≡ first_of failed.new (moved_from from text.now out.old).answer }
+fn print_moved(console: &mut Console, index: usize, from: Format, text: &[u8], out: &mut [u8]) -> u8
+    ensures { result ≡ first_of console.new.failed (moved_from from text.now out.old).answer }
 {
     let moved = move_text(from, text, out);
     let size = moved.size;
     let verdict = moved.verdict;
-    write_output(rt, &out[..size], failed);
-    if *failed != 0 {
-        return *failed;
+    console.write_output(&out[..size]);
+    if console.failed != 0 {
+        return console.failed;
     }
-    explain(rt, index, from, verdict, failed);
-    point_out(rt, index, from, verdict, text, failed);
-    first_of(*failed, verdict.answer)
+    explain(console, index, from, verdict);
+    point_out(console, index, from, verdict, text);
+    first_of(console.failed, verdict.answer)
 }
 
 // Reads the text that an argument names, which has a format, and prints it in the other one. The buffers are lent, so that
 // the promise can name what was read.
 pub fn move_input(
-    rt: HostRuntime,
+    console: &mut Console,
     index: usize,
     from: Format,
     text: &mut [u8],
     out: &mut [u8],
-    failed: &mut u8,
 ) -> Done
-    ensures { result.status ≡ first_of failed.new (moved_from from (take result.size text.new) out.old).answer }
+    ensures { result.status ≡ first_of console.new.failed (moved_from from (take result.size text.new) out.old).answer }
 {
-    let size = read_tape_input(rt, index, text, failed);
-    if *failed != 0 {
+    let size = read_tape_input(console, index, text);
+    if console.failed != 0 {
         return Done {
             size: size,
-            status: *failed,
+            status: console.failed,
         };
     }
-    let status = print_moved(rt, index, from, &text[..size], out, failed);
+    let status = print_moved(console, index, from, &text[..size], out);
     Done {
         size: size,
         status: status,
@@ -149,7 +120,7 @@ pub fn move_input(
 pub fn move_argument(rt: HostRuntime, index: usize, from: Format) -> u8 {
     let mut text = tape_buffer();
     let mut out = tape_buffer();
-    let mut failed = 0;
-    let done = move_input(rt, index, from, &mut text, &mut out, &mut failed);
+    let mut console = Console::new(rt);
+    let done = move_input(&mut console, index, from, &mut text, &mut out);
     done.status
 }

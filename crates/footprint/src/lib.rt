@@ -2,13 +2,12 @@
 #![tactic(auto)]
 
 ghost use Rattle.std.specs.Prelude.{◌≡◌, ◌+◌, ◌<◌, [], ◌∷◌, length, None};
-ghost use Rattle.manual.specs.Stepping.{full_memory};
 ghost use Rattle.manual.specs.ReadList.{listed_due, listed_step_full, listed_step};
 ghost use Rattle.manual.specs.StoreList.{stored_by_due, stored_by_step_full, stored_by_step};
 ghost use Rattle.footprint.specs.Places.{footprint_of};
 
 use manual::{FULL_MEMORY, HIGHEST_COUNT, Lines, Machine};
-use memory::{Address, get_byte};
+use memory::{Address, Memory, get_byte};
 use places::Footprint;
 use reading::reads_by;
 use registers::Registers;
@@ -22,8 +21,7 @@ mod storing; // storing.rt: what is stored to by a way
 mod ways; // ways.rt: the way of each opcode
 
 // What the byte at the counter reads, with itself: what a step reads if no line is due.
-fn reads_quiet(registers: Registers, memory: &[u8]) -> Footprint
-    requires { length memory.now ≡ full_memory }
+fn reads_quiet(registers: Registers, memory: &Memory) -> Footprint
     ensures { result ≡ footprint_of (listed_due None registers memory.now) }
 {
     let opcode = get_byte(memory, Address(registers.counter));
@@ -31,8 +29,7 @@ fn reads_quiet(registers: Registers, memory: &[u8]) -> Footprint
 }
 
 // What the byte at the counter stores to.
-fn stores_quiet(registers: Registers, memory: &[u8]) -> Footprint
-    requires { length memory.now ≡ full_memory }
+fn stores_quiet(registers: Registers, memory: &Memory) -> Footprint
     ensures { result ≡ footprint_of (stored_by_due None registers memory.now) }
 {
     let opcode = get_byte(memory, Address(registers.counter));
@@ -44,16 +41,15 @@ fn reads_through(vector: u16) -> Footprint
     requires { vector + 1 < 65536 }
     ensures { result ≡ footprint_of (vector ∷ (vector + 1) ∷ []) }
 {
-    Footprint::two(Address(vector), Address(vector + 1))
+    Footprint::of([vector, vector + 1])
 }
 
 // What a step on a full memory reads.
-pub fn reads_full(machine: Machine, lines: Lines, memory: &[u8]) -> Footprint
-    requires { length memory.now ≡ full_memory }
+pub fn reads_full(machine: Machine, lines: Lines, memory: &Memory) -> Footprint
     ensures { result ≡ footprint_of (listed_step_full lines machine memory.now) }
 {
     if HIGHEST_COUNT < machine.cycles {
-        return Footprint::none();
+        return Footprint::of([]);
     }
     match lines.due(machine) {
         Some(vector) => reads_through(vector),
@@ -61,23 +57,22 @@ pub fn reads_full(machine: Machine, lines: Lines, memory: &[u8]) -> Footprint
     }
 }
 
-// The addresses that a step from here reads, in order.
+// The addresses that a step from here reads, in order. What it shares with `stores_of` is the test of the length alone.
 pub fn reads_of(machine: Machine, lines: Lines, memory: &[u8]) -> Footprint
     ensures { result ≡ footprint_of (listed_step (length memory.now) lines machine memory.now) }
 {
-    if memory.len() != FULL_MEMORY {
-        return Footprint::none();
-    }
+    let Some(memory) = memory.as_array::<FULL_MEMORY>() else {
+        return Footprint::of([]);
+    };
     reads_full(machine, lines, memory)
 }
 
 // What a step on a full memory stores to.
-pub fn stores_full(machine: Machine, lines: Lines, memory: &[u8]) -> Footprint
-    requires { length memory.now ≡ full_memory }
+pub fn stores_full(machine: Machine, lines: Lines, memory: &Memory) -> Footprint
     ensures { result ≡ footprint_of (stored_by_step_full lines machine memory.now) }
 {
     if HIGHEST_COUNT < machine.cycles {
-        return Footprint::none();
+        return Footprint::of([]);
     }
     match lines.due(machine) {
         Some(_) => pushes(machine.registers),
@@ -89,8 +84,8 @@ pub fn stores_full(machine: Machine, lines: Lines, memory: &[u8]) -> Footprint
 pub fn stores_of(machine: Machine, lines: Lines, memory: &[u8]) -> Footprint
     ensures { result ≡ footprint_of (stored_by_step (length memory.now) lines machine memory.now) }
 {
-    if memory.len() != FULL_MEMORY {
-        return Footprint::none();
-    }
+    let Some(memory) = memory.as_array::<FULL_MEMORY>() else {
+        return Footprint::of([]);
+    };
     stores_full(machine, lines, memory)
 }

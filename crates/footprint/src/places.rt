@@ -1,10 +1,8 @@
 // A few addresses in order, by value: at most five, as the rules say of the bytes that a step reads.
-ghost use Rattle.std.specs.Prelude.{◌≡◌, [], ◌∷◌};
+ghost use Rattle.std.specs.Prelude.{◌≡◌};
 ghost use Rattle.footprint.specs.Places.{footprint_of};
 
-use memory::Address;
-
-// The first `count` of the places; after them stand zeros.
+// The first `count` of the places; after them stand zeros. A count beside an array, since that is what mos6502_reads hands to C.
 #[derive(Clone, Copy)]
 pub struct Footprint {
     pub count: usize,
@@ -12,69 +10,13 @@ pub struct Footprint {
 }
 
 impl Footprint {
-    // No address.
-    pub fn none() -> Footprint
-        ensures { result ≡ footprint_of [] }
+    // The first five of some addresses.
+    pub fn of<const N: usize>(listed: [u16; N]) -> Footprint
+        ensures { result ≡ footprint_of listed.entry }
     {
-        Footprint {
-            count: 0,
-            places: [0, 0, 0, 0, 0],
-        }
-    }
-
-    // One address.
-    pub fn one(first: Address) -> Footprint
-        ensures { result ≡ footprint_of (first.0 ∷ []) }
-    {
-        Footprint {
-            count: 1,
-            places: [first.0, 0, 0, 0, 0],
-        }
-    }
-
-    // Two addresses.
-    pub fn two(first: Address, second: Address) -> Footprint
-        ensures { result ≡ footprint_of (first.0 ∷ second.0 ∷ []) }
-    {
-        Footprint {
-            count: 2,
-            places: [first.0, second.0, 0, 0, 0],
-        }
-    }
-
-    // Three addresses.
-    pub fn three(first: Address, second: Address, third: Address) -> Footprint
-        ensures { result ≡ footprint_of (first.0 ∷ second.0 ∷ third.0 ∷ []) }
-    {
-        Footprint {
-            count: 3,
-            places: [first.0, second.0, third.0, 0, 0],
-        }
-    }
-
-    // Four addresses.
-    pub fn four(first: Address, second: Address, third: Address, fourth: Address) -> Footprint
-        ensures { result ≡ footprint_of (first.0 ∷ second.0 ∷ third.0 ∷ fourth.0 ∷ []) }
-    {
-        Footprint {
-            count: 4,
-            places: [first.0, second.0, third.0, fourth.0, 0],
-        }
-    }
-
-    // Five addresses.
-    pub fn five(
-        first: Address,
-        second: Address,
-        third: Address,
-        fourth: Address,
-        fifth: Address,
-    ) -> Footprint
-        ensures { result ≡ footprint_of (first.0 ∷ second.0 ∷ third.0 ∷ fourth.0 ∷ fifth.0 ∷ []) }
-    {
-        Footprint {
-            count: 5,
-            places: [first.0, second.0, third.0, fourth.0, fifth.0],
-        }
+        let count = N.min(5);
+        let mut places = [0; 5];
+        places[..count].copy_from_slice(&listed[..count]);
+        Footprint { count, places }
     }
 }

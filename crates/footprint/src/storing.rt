@@ -1,53 +1,45 @@
 // What is stored to by a way, in order: a store's target, a modified byte's, and what is pushed.
-ghost use Rattle.std.specs.Prelude.{◌≡◌, ◌<◌, length};
-ghost use Rattle.manual.specs.Stepping.{full_memory};
+ghost use Rattle.std.specs.Prelude.{◌≡◌, [], ◌∷◌};
 ghost use Rattle.manual.specs.StoreList.{three_pushed};
 ghost use Rattle.footprint.specs.Places.{footprint_of};
-ghost use Rattle.footprint.specs.Inner.Ways.{stored_by};
+ghost use Rattle.footprint.specs.Inner.Ways.{target_of, stored_by};
 
 use crate::aims::above;
 use crate::places::Footprint;
-use crate::reading::reads_to_target;
-use crate::ways::*;
-use memory::{Address, join};
+use crate::reading::reads_to;
+use crate::ways::{Storing, Target};
+use memory::{Memory, join};
 use registers::Registers;
 
 // The addresses of the three bytes that BRK or a line pushes.
 pub(crate) fn pushes(registers: Registers) -> Footprint
     ensures { result ≡ footprint_of (three_pushed registers) }
 {
-    let stack = registers.stack;
-    Footprint::three(join(1, stack.0), above(stack.0, 255), above(stack.0, 254))
+    let stack = registers.stack.0;
+    Footprint::of([join(1, stack).0, above(stack, 255).0, above(stack, 254).0])
 }
 
-// What is stored to by a way that leads to a byte: the last of what is read by it.
-fn stores_to_target(way: u8, registers: Registers, memory: &[u8]) -> Footprint
-    requires { (length memory.now ≡ full_memory) × (way < 9) }
-    ensures { result ≡ footprint_of (stored_by way registers memory.now) }
+// What is stored to by a mode that leads to a byte: the last of what is read by it.
+#[tactic(auto, using(crate::specs::Lemmas::LastRead::some_read, crate::specs::Lemmas::LastRead::last_read))]
+fn stores_to(target: Target, registers: Registers, memory: &Memory) -> Footprint
+    ensures { result ≡ footprint_of (target_of target registers memory.now ∷ []) }
 {
-    if way == NOTHING {
-        return Footprint::none();
-    }
-    let read = reads_to_target(way, registers, memory);
-    let places = read.places;
-    let last = read.count - 1;
-    Footprint::one(Address(places[last]))
+    let read = reads_to(target, registers, memory);
+    Footprint::of([read.places[read.count - 1]])
 }
 
 // What is stored to by a way.
-pub(crate) fn stores_by(way: u8, registers: Registers, memory: &[u8]) -> Footprint
-    requires { length memory.now ≡ full_memory }
+#[tactic(auto, unfolding(crate::specs::Inner::Ways::stored_by))]
+pub(crate) fn stores_by(way: Storing, registers: Registers, memory: &Memory) -> Footprint
     ensures { result ≡ footprint_of (stored_by way registers memory.now) }
 {
-    if way < PUSH_ONE {
-        return stores_to_target(way, registers, memory);
-    }
-    let stack = registers.stack;
-    let top = join(1, stack.0);
+    let stack = registers.stack.0;
+    let top = join(1, stack).0;
     match way {
-        PUSH_ONE => Footprint::one(top),
-        PUSH_TWO => Footprint::two(top, above(stack.0, 255)),
-        PUSH_THREE => pushes(registers),
-        _ => Footprint::none(),
+        Storing::Nothing => Footprint::of([]),
+        Storing::To(target) => stores_to(target, registers, memory),
+        Storing::PushOne => Footprint::of([top]),
+        Storing::PushTwo => Footprint::of([top, above(stack, 255).0]),
+        Storing::PushThree => pushes(registers),
     }
 }

@@ -9,6 +9,7 @@ ghost use Rattle.trace_line.specs.Lines.{longest_line};
 
 use manual::{FULL_MEMORY, Machine};
 use statuses::Goal;
+use text_writing::Writer;
 use trace_line::{Line, put_line, read_state};
 
 // Where a run begins: as the image's own program does, or from the state of a run that was halted.
@@ -70,7 +71,9 @@ fn put_state(file: &mut [u8], machine: Machine) -> usize
     ensures file_after { take result file.new ≡ halted_run machine (take full_memory file.old) }
     ensures prefix_len { IsPrefixLen result file.new }
 {
-    put_line(file, FULL_MEMORY, machine)
+    let mut out = Writer::from(file, FULL_MEMORY);
+    put_line(&mut out, machine);
+    out.place()
 }
 
 // Makes the file that a run leaves of the memory that stands at the start of a buffer, and answers its size.
@@ -80,8 +83,7 @@ pub fn put_after(file: &mut [u8], goal: Goal, machine: Machine) -> usize
     ensures prefix_len { IsPrefixLen result file.new }
 {
     match goal {
-        Goal::Unnamed => FULL_MEMORY,
-        Goal::At(_) => FULL_MEMORY,
+        Goal::Unnamed | Goal::At(_) => FULL_MEMORY,
         Goal::AllSteps => put_state(file, machine),
     }
 }

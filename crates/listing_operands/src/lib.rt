@@ -1,119 +1,80 @@
 // How the manual writes an operand, with the space before it.
 #![tactic(auto)]
 
-ghost use Rattle.std.specs.Prelude.{◌≡◌, length};
-ghost use Rattle.text_writing.specs.Written.{Wrote};
+ghost use Rattle.std.specs.Prelude.{◌≡◌};
+ghost use Rattle.text_writing.specs.Written.{Writes};
 ghost use Rattle.listing_operands.specs.Operands.{operand};
 ghost use Rattle.listing_operands.specs.Inner.Patterns.{pattern_of, stands_for, filled};
 
 use arithmetic::branch_target;
 use instruction::AddressingMode;
-use memory::{Address, get_byte, join};
-use text_writing::{put_byte, put_hex2, put_hex4};
+use memory::{Address, Memory, get_byte, join};
+use text_writing::Writer;
 
-// The notation of each mode: b stands for the byte after the opcode, w for the word there, t for a branch's target, and a
-// dot for nothing.
-const ACCUMULATOR: [u8; 8] = *b" A......";
-
-const IMPLIED: [u8; 8] = *b"........";
-
-const IMMEDIATE: [u8; 8] = *b" #$b....";
-
-const ZERO_PAGE: [u8; 8] = *b" $b.....";
-
-const ZERO_PAGE_X: [u8; 8] = *b" $b,X...";
-
-const ZERO_PAGE_Y: [u8; 8] = *b" $b,Y...";
-
-const RELATIVE: [u8; 8] = *b" $t.....";
-
-const ABSOLUTE: [u8; 8] = *b" $w.....";
-
-const ABSOLUTE_X: [u8; 8] = *b" $w,X...";
-
-const ABSOLUTE_Y: [u8; 8] = *b" $w,Y...";
-
-const BUGGY_INDIRECT: [u8; 8] = *b" ($w)...";
-
-const INDEXED_INDIRECT_X: [u8; 8] = *b" ($b,X).";
-
-const INDIRECT_INDEXED_Y: [u8; 8] = *b" ($b),Y.";
-
-// The notation of a mode.
-fn pattern(mode: AddressingMode) -> [u8; 8]
-    ensures { result ≡ pattern_of mode }
+// The notation of a mode: b stands for the byte after the opcode, w for the word there, and t for a branch's target.
+#[tactic(auto, unfolding(crate::specs::Inner::Patterns::pattern_of, crate::specs::Operands::written))]
+fn pattern(mode: AddressingMode) -> &'static [u8]
+    ensures { result.now ≡ pattern_of mode }
 {
     match mode {
-        AddressingMode::Accumulator => ACCUMULATOR,
-        AddressingMode::Implied => IMPLIED,
-        AddressingMode::Immediate => IMMEDIATE,
-        AddressingMode::ZeroPage => ZERO_PAGE,
-        AddressingMode::ZeroPageX => ZERO_PAGE_X,
-        AddressingMode::ZeroPageY => ZERO_PAGE_Y,
-        AddressingMode::Relative => RELATIVE,
-        AddressingMode::Absolute => ABSOLUTE,
-        AddressingMode::AbsoluteX => ABSOLUTE_X,
-        AddressingMode::AbsoluteY => ABSOLUTE_Y,
-        AddressingMode::BuggyIndirect => BUGGY_INDIRECT,
-        AddressingMode::IndexedIndirectX => INDEXED_INDIRECT_X,
-        AddressingMode::IndirectIndexedY => INDIRECT_INDEXED_Y,
+        AddressingMode::Accumulator => b" A",
+        AddressingMode::Implied => b"",
+        AddressingMode::Immediate => b" #$b",
+        AddressingMode::ZeroPage => b" $b",
+        AddressingMode::ZeroPageX => b" $b,X",
+        AddressingMode::ZeroPageY => b" $b,Y",
+        AddressingMode::Relative => b" $t",
+        AddressingMode::Absolute => b" $w",
+        AddressingMode::AbsoluteX => b" $w,X",
+        AddressingMode::AbsoluteY => b" $w,Y",
+        AddressingMode::BuggyIndirect => b" ($w)",
+        AddressingMode::IndexedIndirectX => b" ($b,X)",
+        AddressingMode::IndirectIndexedY => b" ($b),Y",
     }
 }
 
-// One character of a pattern, or what it stands for.
-fn put_character(
-    out: &mut [u8],
-    at: usize,
-    character: u8,
+// What the letters of a pattern stand for.
+#[derive(Clone, Copy)]
+struct Numbers {
     byte: u8,
     word: u16,
     target: u16,
-) -> usize
-    ensures { Wrote out.old at (stands_for byte word target character) out.new result }
-{
-    if character == b'b' {
-        return put_hex2(out, at, byte);
-    }
-    if character == b'w' {
-        return put_hex4(out, at, word);
-    }
-    if character == b't' {
-        return put_hex4(out, at, target);
-    }
-    if character == b'.' {
-        return at;
-    }
-    put_byte(out, at, character)
 }
 
-// A pattern with its numbers.
-fn put_pattern(out: &mut [u8], at: usize, pattern: &[u8], byte: u8, word: u16, target: u16) -> usize
-    ensures { Wrote out.old at (filled byte word target pattern.now) out.new result }
-{
-    let mut next = at;
-    let mut i = 0;
-    while i < pattern.len() {
-        next = put_character(out, next, pattern[i], byte, word, target);
-        i += 1;
+impl Numbers {
+    // One character of a pattern, or what it stands for.
+    fn put_character(self, out: &mut Writer, character: u8)
+        ensures { Writes out.old (stands_for self.byte self.word self.target character) out.new }
+    {
+        match character {
+            b'b' => out.put_hex2(self.byte),
+            b'w' => out.put_hex4(self.word),
+            b't' => out.put_hex4(self.target),
+            itself => out.put_byte(itself),
+        }
     }
-    next
+
+    // A pattern with its numbers.
+    fn put_pattern(self, out: &mut Writer, pattern: &[u8])
+        ensures { Writes out.old (filled self.byte self.word self.target pattern.now) out.new }
+    {
+        for &character in pattern {
+            self.put_character(out, character);
+        }
+    }
 }
 
 // The operand of an instruction at an address.
-pub fn put_operand(
-    out: &mut [u8],
-    at: usize,
-    mode: AddressingMode,
-    memory: &[u8],
-    address: u16,
-) -> usize
-    requires { length memory.now ≡ 65536 }
-    ensures { Wrote out.old at (operand mode memory.now address) out.new result }
+pub fn put_operand(out: &mut Writer, mode: AddressingMode, memory: &Memory, address: u16)
+    ensures { Writes out.old (operand mode memory.now address) out.new }
 {
     let byte = get_byte(memory, Address(address).plus(1));
     let after = Address(address).plus(2);
     let word = join(get_byte(memory, after), byte).0;
-    let target = branch_target(after.0, byte);
-    let notation = pattern(mode);
-    put_pattern(out, at, &notation, byte, word, target)
+    let numbers = Numbers {
+        byte,
+        word,
+        target: branch_target(after.0, byte),
+    };
+    numbers.put_pattern(out, pattern(mode));
 }

@@ -6,10 +6,7 @@ ghost use Rattle.text_reading.specs.Numbers.{nowhere};
 ghost use Rattle.program_check.specs.Inner.Ahead.{most_held, part_end, another};
 ghost use Rattle.program_check.specs.Inner.Turns.{part_in, added, Goes, More, Ends};
 
-use console::{
-    Input, close_input, note_failure, open_input, put_input_name, say_why, show_progress,
-    wipe_progress,
-};
+use console::{Console, Input, close_input, put_input_name, say_why, show_progress, wipe_progress};
 use laws::answers::*;
 use statuses::FAILED;
 use text_writing::put_text;
@@ -33,23 +30,22 @@ struct Turn {
 
 // Reads behind what was kept, and answers how much there is then: no more than before if the log has ended.
 fn read_more(
-    rt: HostRuntime,
+    console: &mut Console,
     log: &mut Input,
     shown: &[u8],
     kept: usize,
     buffer: &mut [u8],
-    failed: &mut u8,
 ) -> usize
     requires { kept ≤ length buffer.old }
     ensures lower_bound { (kept ≤ result) × (result ≤ length buffer.new) }
     ensures buffer_unchanged { take kept buffer.new ≡ take kept buffer.old }
-    ensures failure_stays { FailureStays failed.old failed.new }
+    ensures failure_stays { FailureStays console.old.failed console.new.failed }
 {
     match log.read(&mut buffer[kept..]) {
         Ok(more) => kept + more,
         Err(error) => {
-            say_why(rt, shown, error);
-            note_failure(FAILED, failed);
+            say_why(console.rt, shown, error);
+            console.note_failure(FAILED);
             kept
         }
     }
@@ -141,23 +137,22 @@ fn check_read(
 
 // Reads a part and checks it. If it cannot be read nothing more is checked.
 fn check_some(
-    rt: HostRuntime,
+    console: &mut Console,
     log: &mut Input,
     shown: &[u8],
     found: Found,
     kept: usize,
     buffer: &mut [u8],
     copy: &mut [u8],
-    failed: &mut u8,
 ) -> Turn
     requires { kept ≤ length buffer.old }
     ensures kept_in_bounds { result.kept ≤ length buffer.new }
-    ensures more { failed.new ≡ 0 → More found.lines found.last (take kept buffer.old) copy.old result (take result.kept buffer.new) copy.new }
-    ensures failed_after { result.more ≡ true → failed.new ≡ 0 }
-    ensures failure_stays { FailureStays failed.old failed.new }
+    ensures more { console.new.failed ≡ 0 → More found.lines found.last (take kept buffer.old) copy.old result (take result.kept buffer.new) copy.new }
+    ensures failed_after { result.more ≡ true → console.new.failed ≡ 0 }
+    ensures failure_stays { FailureStays console.old.failed console.new.failed }
 {
-    let size = read_more(rt, log, shown, kept, buffer, failed);
-    if *failed != 0 {
+    let size = read_more(console, log, shown, kept, buffer);
+    if console.failed != 0 {
         return Turn {
             found: found,
             kept: kept,
@@ -173,15 +168,9 @@ fn tell_progress(rt: HostRuntime, lines: u64) {
 
 // Reads the whole log and checks it, or stops at its first bad entry: there is a text, the one that was read, of which this is
 // the check, whatever follows or if nothing does. The count of rounds ends the loop for the proof alone.
-fn check_from(
-    rt: HostRuntime,
-    log: &mut Input,
-    shown: &[u8],
-    copy: &mut [u8],
-    failed: &mut u8,
-) -> Found
-    ensures ends { failed.new ≡ 0 → Ends copy.old result copy.new }
-    ensures failure_stays { FailureStays failed.old failed.new }
+fn check_from(console: &mut Console, log: &mut Input, shown: &[u8], copy: &mut [u8]) -> Found
+    ensures ends { console.new.failed ≡ 0 → Ends copy.old result copy.new }
+    ensures failure_stays { FailureStays console.old.failed console.new.failed }
 {
     let mut buffer = [0u8; 65536];
     let mut found = Found {
@@ -192,25 +181,25 @@ fn check_from(
     let mut kept: usize = 0;
     let mut turns: u64 = 18446744073709551615;
     while 0 < turns {
-        let turn = check_some(rt, log, shown, found, kept, &mut buffer, copy, failed);
+        let turn = check_some(console, log, shown, found, kept, &mut buffer, copy);
         found = turn.found;
         kept = turn.kept;
         if !turn.more {
             return found;
         }
-        tell_progress(rt, found.lines);
+        tell_progress(console.rt, found.lines);
         turns -= 1;
     }
-    note_failure(FAILED, failed);
+    console.note_failure(FAILED);
     found
 }
 
 // Checks the log that an argument names.
-pub(crate) fn check_log(rt: HostRuntime, index: usize, copy: &mut [u8], failed: &mut u8) -> Found
-    ensures ends { failed.new ≡ 0 → Ends copy.old result copy.new }
-    ensures failure_stays { FailureStays failed.old failed.new }
+pub(crate) fn check_log(console: &mut Console, index: usize, copy: &mut [u8]) -> Found
+    ensures ends { console.new.failed ≡ 0 → Ends copy.old result copy.new }
+    ensures failure_stays { FailureStays console.old.failed console.new.failed }
 {
-    match open_input(rt, index, failed) {
+    match console.open_input(index) {
         None => Found {
             answer: NOT_REFUSED,
             lines: 0,
@@ -218,9 +207,9 @@ pub(crate) fn check_log(rt: HostRuntime, index: usize, copy: &mut [u8], failed: 
         },
         Some(mut log) => {
             let mut name = [0u8; 4096];
-            let size = put_input_name(rt, &mut name, index);
-            let found = check_from(rt, &mut log, &name[..size], copy, failed);
-            wipe_progress(rt);
+            let size = put_input_name(console.rt, &mut name, index);
+            let found = check_from(console, &mut log, &name[..size], copy);
+            wipe_progress(console.rt);
             close_input(log);
             found
         }

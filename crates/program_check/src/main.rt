@@ -23,10 +23,7 @@ ghost use Rattle.console.specs.Failing.{FailureStays};
 ghost use Rattle.program_check.specs.Concluded.{Concludes, Notes};
 ghost use Rattle.trace_line.specs.Lines.{longest_line};
 
-use console::{
-    argument_count, argument_is, hand_over, names_from, note_failure, read_two, refuse, say_of,
-    write_output,
-};
+use console::{Console, argument_count, argument_is, hand_over, names_from, refuse};
 use console_ending::say_refused;
 use laws::answers::*;
 use log::{Found, check_log};
@@ -41,26 +38,26 @@ use trace_text::{LONGEST_FINDING, LONGEST_VERDICT, View, put_finding, put_verdic
 
 mod log; // log.rt: a log, read and checked part by part
 
-fn write_verdict(rt: HostRuntime, answer: u8, line: u64, right: &[u8], failed: &mut u8)
+fn write_verdict(console: &mut Console, answer: u8, line: u64, right: &[u8])
     requires { length right.now ≤ longest_line }
-    ensures { FailureStays failed.old failed.new }
+    ensures { FailureStays console.old.failed console.new.failed }
 {
     let mut text = [0u8; LONGEST_VERDICT];
     let end = put_verdict(&mut text, 0, answer, line, right);
-    write_output(rt, &text[..end], failed);
+    console.write_output(&text[..end]);
 }
 
-fn say_finding(rt: HostRuntime, index: usize, answer: u8, number: u64, failed: &mut u8)
-    ensures { FailureStays failed.old failed.new }
+fn say_finding(console: &mut Console, index: usize, answer: u8, number: u64)
+    ensures { FailureStays console.old.failed console.new.failed }
 {
     let mut text = [0u8; LONGEST_FINDING];
     let size = put_finding(&mut text, 0, answer, number);
-    say_of(rt, index, &text[..size], failed);
+    console.say_of(index, &text[..size]);
 }
 
 // Why no step can be made from the last line, where none can be.
-fn say_stuck(rt: HostRuntime, index: usize, ended: Ended, copy: &[u8], failed: &mut u8)
-    ensures { FailureStays failed.old failed.new }
+fn say_stuck(console: &mut Console, index: usize, ended: Ended, copy: &[u8])
+    ensures { FailureStays console.old.failed console.new.failed }
 {
     let reason = ended.reason;
     if reason.is_made() {
@@ -68,130 +65,108 @@ fn say_stuck(rt: HostRuntime, index: usize, ended: Ended, copy: &[u8], failed: &
     }
     let mut text = [0u8; LONGEST_SENTENCE];
     let size = put_sentence(&mut text, 0, Goal::Unnamed, ended, copy);
-    say_of(rt, index, &text[..size], failed);
+    console.say_of(index, &text[..size]);
 }
 
 // The line that would have followed; where no step can be made, a sentence says why.
-fn show_right(
-    rt: HostRuntime,
-    index: usize,
-    line: u64,
-    last: Last,
-    copy: &mut [u8],
-    failed: &mut u8,
-)
-    ensures { FailureStays failed.old failed.new }
+fn show_right(console: &mut Console, index: usize, line: u64, last: Last, copy: &mut [u8])
+    ensures { FailureStays console.old.failed console.new.failed }
 {
     match last {
-        Last::Start => write_verdict(rt, STRAY_ENTRY, line, b"", failed),
+        Last::Start => write_verdict(console, STRAY_ENTRY, line, b""),
         Last::After(machine) => {
             let mut right = [0u8; LONGEST_LINE];
             let shown = put_steps(&mut right, View::States, machine, 1, copy);
             let size = shown.size;
             let ended = shown.ended;
-            say_stuck(rt, index, ended, copy, failed);
-            write_verdict(rt, STRAY_ENTRY, line, &right[..size], failed);
+            say_stuck(console, index, ended, copy);
+            write_verdict(console, STRAY_ENTRY, line, &right[..size]);
         }
     }
 }
 
 // What is shown of a log that is not accepted.
-fn show_bad(
-    rt: HostRuntime,
-    index: usize,
-    status: u8,
-    found: Found,
-    copy: &mut [u8],
-    failed: &mut u8,
-)
-    ensures { FailureStays failed.old failed.new }
+fn show_bad(console: &mut Console, index: usize, status: u8, found: Found, copy: &mut [u8])
+    ensures { FailureStays console.old.failed console.new.failed }
 {
     let bad = found.lines.wrapping_add(1);
-    say_finding(rt, index, status, bad, failed);
+    say_finding(console, index, status, bad);
     if status == STRAY_ENTRY {
         let last = found.last;
-        show_right(rt, index, bad, last, copy, failed);
+        show_right(console, index, bad, last, copy);
         return;
     }
-    write_verdict(rt, status, bad, b"", failed);
+    write_verdict(console, status, bad, b"");
 }
 
 // Shows what was found in a log, by its status.
-fn show_found(
-    rt: HostRuntime,
-    index: usize,
-    status: u8,
-    found: Found,
-    copy: &mut [u8],
-    failed: &mut u8,
-)
-    ensures { FailureStays failed.old failed.new }
+fn show_found(console: &mut Console, index: usize, status: u8, found: Found, copy: &mut [u8])
+    ensures { FailureStays console.old.failed console.new.failed }
 {
     if status == 0 {
-        say_finding(rt, index, NOT_REFUSED, found.lines, failed);
-        write_verdict(rt, NOT_REFUSED, 0, b"", failed);
+        say_finding(console, index, NOT_REFUSED, found.lines);
+        write_verdict(console, NOT_REFUSED, 0, b"");
         return;
     }
-    show_bad(rt, index, status, found, copy, failed);
+    show_bad(console, index, status, found, copy);
 }
 
 // Shows what was found in a log, and answers its status.
-fn conclude(rt: HostRuntime, index: usize, found: Found, copy: &mut [u8], failed: &mut u8) -> u8
-    ensures value { result ≡ first_of failed.new (log_status (length copy.old) found.answer found.lines) }
-    ensures failure_stays { FailureStays failed.old failed.new }
+fn conclude(console: &mut Console, index: usize, found: Found, copy: &mut [u8]) -> u8
+    ensures value { result ≡ first_of console.new.failed (log_status (length copy.old) found.answer found.lines) }
+    ensures failure_stays { FailureStays console.old.failed console.new.failed }
 {
     let status = log_status(copy.len(), found.answer, found.lines);
-    show_found(rt, index, status, found, copy, failed);
-    first_of(*failed, status)
+    show_found(console, index, status, found, copy);
+    first_of(console.failed, status)
 }
 
 // Says that an image is none, and answers the status.
-fn refuse_image(rt: HostRuntime, index: usize, image: &[u8], failed: &mut u8) -> u8
-    ensures value { result ≡ first_of failed.new 1 }
-    ensures failure_stays { FailureStays failed.old failed.new }
+fn refuse_image(console: &mut Console, index: usize, image: &[u8]) -> u8
+    ensures value { result ≡ first_of console.new.failed 1 }
+    ensures failure_stays { FailureStays console.old.failed console.new.failed }
 {
-    say_refused(rt, index, image, failed);
-    write_verdict(rt, MEMORY_NOT_FULL, 0, b"", failed);
-    first_of(*failed, MEMORY_NOT_FULL)
+    say_refused(console, index, image);
+    write_verdict(console, MEMORY_NOT_FULL, 0, b"");
+    first_of(console.failed, MEMORY_NOT_FULL)
 }
 
 // Checks a log on a copy of the image, and answers the status: there is a text, the one that was read, of which this is it.
 // Where the image could not be read nothing is checked.
-fn check_on(rt: HostRuntime, image: usize, log: usize, copy: &mut [u8], failed: &mut u8) -> u8
-    ensures concludes { Concludes copy.old failed.new result }
-    ensures failure_stays { FailureStays failed.old failed.new }
+fn check_on(console: &mut Console, image: usize, log: usize, copy: &mut [u8]) -> u8
+    ensures concludes { Concludes copy.old console.new.failed result }
+    ensures failure_stays { FailureStays console.old.failed console.new.failed }
 {
-    if *failed != 0 {
-        return *failed;
+    if console.failed != 0 {
+        return console.failed;
     }
     if copy.len() != 65536 {
-        return refuse_image(rt, image, copy, failed);
+        return refuse_image(console, image, copy);
     }
-    let found = check_log(rt, log, copy, failed);
-    if *failed != 0 {
-        return *failed;
+    let found = check_log(console, log, copy);
+    if console.failed != 0 {
+        return console.failed;
     }
-    conclude(rt, log, found, copy, failed)
+    conclude(console, log, found, copy)
 }
 
 // Checks a log on the image, which is read again for each, and notes the status: of several logs the first that is not 0
 // stays. The image is left in `input` as it was read, and the log is checked on a copy; the answer is its size.
 fn check_argument(
-    rt: HostRuntime,
+    console: &mut Console,
     image: usize,
     log: usize,
     input: &mut [u8],
     copy: &mut [u8],
-    failed: &mut u8,
     status: &mut u8,
 ) -> usize
     requires { length input.old ≤ length copy.old }
-    ensures notes { Notes status.old (take result input.new) failed.new status.new }
-    ensures failure_stays { FailureStays failed.old failed.new }
+    ensures notes { Notes status.old (take result input.new) console.new.failed status.new }
+    ensures failure_stays { FailureStays console.old.failed console.new.failed }
 {
-    let size = read_two(rt, image, input, copy, failed);
-    let own = check_on(rt, image, log, &mut copy[..size], failed);
-    note_failure(own, status);
+    let size = console.read_two(image, input, copy);
+    let own = check_on(console, image, log, &mut copy[..size]);
+    *status = first_of(*status, own);
     size
 }
 
@@ -202,32 +177,28 @@ fn check_all(rt: HostRuntime, first: usize, count: usize) -> u8
     let mut input = image_buffer();
     let mut copy = image_buffer();
     let mut status: u8 = 0;
-    let mut failed: u8 = 0;
-    let mut index = first;
-    while index < count {
-        failed = 0;
+    for index in first..count {
+        let mut console = Console::new(rt);
         check_argument(
-            rt,
+            &mut console,
             first - 1,
             index,
             &mut input,
             &mut copy,
-            &mut failed,
             &mut status,
         );
-        index += 1;
     }
     status
 }
 
 fn check_by_arguments(rt: HostRuntime) -> u8 {
-    let image = names_from(rt, 1);
+    let usage = b"check: give an image and a log, or several logs; ./run check --help\n";
+    let Some(image) = names_from(rt, 1) else {
+        return refuse(rt, usage);
+    };
     let count = argument_count(rt);
-    if image == 0 || count < image + 2 {
-        return refuse(
-            rt,
-            b"check: give an image and a log, or several logs; ./run check --help\n",
-        );
+    if count < image + 2 {
+        return refuse(rt, usage);
     }
     if argument_is(rt, image, b"-") {
         return refuse(rt, b"check: IMAGE is the name of a file\n");

@@ -27,8 +27,7 @@ ghost use Rattle.program_go.specs.Runs.{go_status, go_after};
 ghost use Rattle.trace_line.specs.Lines.{longest_line};
 
 use console::{
-    Asked, Done, Names, hand_over, image_and_after, refuse, steps_and_stop, wipe_progress,
-    write_output,
+    Console, Done, Names, hand_over, image_and_after, refuse, steps_and_stop, wipe_progress,
 };
 use console_ending::say_ending;
 use console_files::{is_same_file, not_written, read_and_test, replace};
@@ -41,92 +40,88 @@ use statuses::{Goal, WRONG_USAGE, first_of};
 
 mod running; // running.rt: the run of a file
 
-fn print_line(rt: HostRuntime, ended: Ended, failed: &mut u8)
-    ensures { FailureStays failed.old failed.new }
+fn print_line(console: &mut Console, ended: Ended)
+    ensures { FailureStays console.old.failed console.new.failed }
 {
     let mut text = [0u8; LONGEST_LINE];
     let size = put_line(&mut text, 0, ended);
-    write_output(rt, &text[..size], failed);
+    console.write_output(&text[..size]);
 }
 
 // Keeps a file that a run left. `input` is what was read: only if its status is 0, and only what the definition says.
 fn keep(
-    rt: HostRuntime,
+    console: &mut Console,
     after: usize,
     goal: Goal,
     steps: u64,
     input: &[u8],
     status: u8,
     file: &[u8],
-    failed: &mut u8,
 ) -> u8
     requires status_value { (status ≡ 0) × (go_status goal steps input.now ≡ 0) × (file.now ≡ go_after goal steps input.now) }
-    requires failed_value { failed.old ≡ 0 }
-    ensures value { result ≡ first_of failed.new status }
-    ensures failure_stays { FailureStays failed.old failed.new }
+    requires failed_value { console.old.failed ≡ 0 }
+    ensures value { result ≡ first_of console.new.failed status }
+    ensures failure_stays { FailureStays console.old.failed console.new.failed }
 {
-    replace(rt, after, status, file, failed)
+    replace(console, after, status, file)
 }
 
 // Runs what was read, in the copy of it that stands at the start of `image`, and keeps what it leaves there.
 fn go_file(
-    rt: HostRuntime,
+    console: &mut Console,
     names: Names,
     goal: Goal,
     steps: u64,
     input: &[u8],
     image: &mut [u8],
-    failed: &mut u8,
 ) -> u8
     requires { (take (length input.now) image.old ≡ input.now) × (length input.now ≤ length image.old) × (full_memory + longest_line ≤ length image.old) }
-    ensures value { result ≡ first_of failed.new (go_status goal steps input.now) }
-    ensures failure_stays { FailureStays failed.old failed.new }
+    ensures value { result ≡ first_of console.new.failed (go_status goal steps input.now) }
+    ensures failure_stays { FailureStays console.old.failed console.new.failed }
 {
     let opened = open(input);
     let size = opened.size;
     let start = opened.start;
-    let ended = run_from(rt, start, steps, &mut image[..size]);
-    wipe_progress(rt);
-    print_line(rt, ended, failed);
-    let status = say_ending(rt, names.image, goal, ended, &image[..size], failed);
-    if first_of(*failed, status) != 0 {
-        return not_written(rt, names.after, status, failed);
+    let ended = run_from(console.rt, start, steps, &mut image[..size]);
+    wipe_progress(console.rt);
+    print_line(console, ended);
+    let status = say_ending(console, names.image, goal, ended, &image[..size]);
+    if first_of(console.failed, status) != 0 {
+        return not_written(console, names.after, status);
     }
     let machine = ended.machine;
     let after_size = put_after(image, goal, machine);
     keep(
-        rt,
+        console,
         names.after,
         goal,
         steps,
         input,
         status,
         &image[..after_size],
-        failed,
     )
 }
 
 // Reads the image into both buffers, and runs it in the second.
 fn go_argument(
-    rt: HostRuntime,
+    console: &mut Console,
     names: Names,
     goal: Goal,
     steps: u64,
     input: &mut [u8],
     image: &mut [u8],
-    failed: &mut u8,
 ) -> Done
     requires { (length input.old ≤ length image.old) × (full_memory + longest_line ≤ length image.old) }
-    ensures { result.status ≡ first_of failed.new (go_status goal steps (take result.size input.new)) }
+    ensures { result.status ≡ first_of console.new.failed (go_status goal steps (take result.size input.new)) }
 {
-    let size = read_and_test(rt, names, input, image, failed);
-    if *failed != 0 {
+    let size = read_and_test(console, names, input, image);
+    if console.failed != 0 {
         return Done {
             size: size,
-            status: *failed,
+            status: console.failed,
         };
     }
-    let status = go_file(rt, names, goal, steps, &input[..size], image, failed);
+    let status = go_file(console, names, goal, steps, &input[..size], image);
     Done {
         size: size,
         status: status,
@@ -142,20 +137,18 @@ fn go(rt: HostRuntime, names: Names, steps: u64, goal: Goal) -> u8 {
     }
     let mut input = image_buffer();
     let mut image = image_buffer();
-    let mut failed = 0;
-    let done = go_argument(rt, names, goal, steps, &mut input, &mut image, &mut failed);
+    let mut console = Console::new(rt);
+    let done = go_argument(&mut console, names, goal, steps, &mut input, &mut image);
     done.status
 }
 
 fn go_by_arguments(rt: HostRuntime) -> u8 {
-    let names = image_and_after(rt, 3);
-    if names.image == 0 {
+    let Some(names) = image_and_after(rt, 3) else {
         return refuse(rt, b"go: give STEPS STOP IMAGE AFTER; ./run go --help\n");
-    }
-    let asked = steps_and_stop(rt, b"go", 1);
-    match asked {
-        Asked::For(steps, goal) => go(rt, names, steps, goal),
-        Asked::Nothing => WRONG_USAGE,
+    };
+    match steps_and_stop(rt, b"go", 1) {
+        Some((steps, goal)) => go(rt, names, steps, goal),
+        None => WRONG_USAGE,
     }
 }
 

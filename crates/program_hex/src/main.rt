@@ -14,18 +14,17 @@
 // What is written and what is said are promised by the crates tape_moving and tape_loading; the status is promised by console_tapes.
 #![tactic(auto)]
 
-use console::{argument_count, hand_over, names_from, refuse};
+use console::{hand_over, name_from, refuse};
 use console_tapes::move_argument;
 use tape_loading::Format;
 
 fn hex_by_arguments(rt: HostRuntime) -> u8 {
-    let index = names_from(rt, 1);
-    if index == 0 || index + 1 < argument_count(rt) {
+    let Some(index) = name_from(rt, 1) else {
         return refuse(
             rt,
             b"hex: name one tape, or none for standard input; ./run hex --help\n",
         );
-    }
+    };
     move_argument(rt, index, Format::Tape)
 }
 

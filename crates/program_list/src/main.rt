@@ -17,16 +17,12 @@ ghost use Rattle.statuses.specs.Statuses.{first_of};
 ghost use Rattle.console.specs.Failing.{FailureStays};
 ghost use Rattle.listing.specs.Listing.{listing_into};
 
-use console::{
-    Done, address_argument, argument_count, hand_over, names_from, read_input, refuse, say_of,
-    write_output,
-};
+use console::{Console, Done, address_argument, hand_over, name_from, refuse};
 use console_ending::say_refused;
 use laws::answers::*;
 use listing::list;
 use memory::image_buffer;
 use statuses::first_of;
-use text_reading::NOWHERE;
 
 // Room for the listing of 18,724 bytes and, if not all of them are lines of their own, of more.
 fn text_buffer() -> [u8; 262144]
@@ -36,73 +32,64 @@ fn text_buffer() -> [u8; 262144]
 }
 
 // What the answer means, if nothing was listed.
-fn explain(rt: HostRuntime, index: usize, answer: u8, image: &[u8], failed: &mut u8)
-    ensures { FailureStays failed.old failed.new }
+fn explain(console: &mut Console, index: usize, answer: u8, image: &[u8])
+    ensures { FailureStays console.old.failed console.new.failed }
 {
     if answer == MEMORY_NOT_FULL {
-        say_refused(rt, index, image, failed);
+        say_refused(console, index, image);
         return;
     }
     if answer == FIRST_ABOVE_LAST {
-        say_of(
-            rt,
-            index,
-            b"refused: the first address is above the last\n",
-            failed,
-        );
+        console.say_of(index, b"refused: the first address is above the last\n");
         return;
     }
     if answer == NO_ROOM {
-        say_of(
-            rt,
+        console.say_of(
             index,
             b"refused: that is more than 262144 characters; list it in parts\n",
-            failed,
         );
     }
 }
 
 // Lists an image in `text`, and answers the status.
 fn list_image(
-    rt: HostRuntime,
+    console: &mut Console,
     index: usize,
     first: u16,
     last: u16,
     image: &[u8],
     text: &mut [u8],
-    failed: &mut u8,
 ) -> u8
-    ensures value { result ≡ first_of failed.new (listing_into image.now first last text.old).answer }
-    ensures failure_stays { FailureStays failed.old failed.new }
+    ensures value { result ≡ first_of console.new.failed (listing_into image.now first last text.old).answer }
+    ensures failure_stays { FailureStays console.old.failed console.new.failed }
 {
     let delivery = list(image, first, last, text);
     let size = delivery.size;
-    explain(rt, index, delivery.answer, image, failed);
-    write_output(rt, &text[..size], failed);
-    first_of(*failed, delivery.answer)
+    explain(console, index, delivery.answer, image);
+    console.write_output(&text[..size]);
+    first_of(console.failed, delivery.answer)
 }
 
 // The same of the image that an argument names, which is read into `input`.
 fn list_argument(
-    rt: HostRuntime,
+    console: &mut Console,
     index: usize,
     first: u16,
     last: u16,
     input: &mut [u8],
     text: &mut [u8],
-    failed: &mut u8,
 ) -> Done
-    ensures status_value { result.status ≡ first_of failed.new (listing_into (take result.size input.new) first last text.old).answer }
-    ensures failure_stays { FailureStays failed.old failed.new }
+    ensures status_value { result.status ≡ first_of console.new.failed (listing_into (take result.size input.new) first last text.old).answer }
+    ensures failure_stays { FailureStays console.old.failed console.new.failed }
 {
-    let size = read_input(rt, index, input, failed);
-    if *failed != 0 {
+    let size = console.read_input(index, input);
+    if console.failed != 0 {
         return Done {
             size: size,
-            status: *failed,
+            status: console.failed,
         };
     }
-    let status = list_image(rt, index, first, last, &input[..size], text, failed);
+    let status = list_image(console, index, first, last, &input[..size], text);
     Done {
         size: size,
         status: status,
@@ -113,28 +100,25 @@ fn list_argument(
 fn list_input(rt: HostRuntime, index: usize, first: u16, last: u16) -> u8 {
     let mut input = image_buffer();
     let mut text = text_buffer();
-    let mut failed: u8 = 0;
-    let done = list_argument(rt, index, first, last, &mut input, &mut text, &mut failed);
+    let mut console = Console::new(rt);
+    let done = list_argument(&mut console, index, first, last, &mut input, &mut text);
     done.status
 }
 
 fn list_by_arguments(rt: HostRuntime) -> u8 {
-    let first = address_argument(rt, 1);
-    let last = address_argument(rt, 2);
-    if first.next == NOWHERE || last.next == NOWHERE {
+    let (Some(first), Some(last)) = (address_argument(rt, 1), address_argument(rt, 2)) else {
         return refuse(
             rt,
             b"list: give two addresses, the first and the last, as four capital hexadecimal digits each\n",
         );
-    }
-    let name = names_from(rt, 3);
-    if name == 0 || name + 1 < argument_count(rt) {
+    };
+    let Some(index) = name_from(rt, 3) else {
         return refuse(
             rt,
             b"list: after the two addresses comes one image; ./run list --help\n",
         );
-    }
-    list_input(rt, name, first.value, last.value)
+    };
+    list_input(rt, index, first, last)
 }
 
 fn main(rt: HostRuntime) {

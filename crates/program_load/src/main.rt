@@ -24,7 +24,7 @@ ghost use Rattle.statuses.specs.Statuses.{first_of};
 ghost use Rattle.console.specs.Failing.{FailureStays};
 ghost use Rattle.tape_loading.specs.Texts.{read_text};
 
-use console::{Done, argument_count, argument_is, hand_over, names_from, read_two, refuse};
+use console::{Console, Done, argument_count, argument_is, hand_over, names_from, refuse};
 use console_ending::say_refused;
 use console_files::{can_replace, is_same_file, not_written, replace};
 use console_tapes::{read_tape_input, say_verdict};
@@ -46,80 +46,70 @@ struct Names {
 }
 
 // One answer is about the image, and all others about the tape.
-fn explain(
-    rt: HostRuntime,
-    tape: usize,
-    format: Format,
-    verdict: Verdict,
-    image: &[u8],
-    failed: &mut u8,
-)
-    ensures { FailureStays failed.old failed.new }
+fn explain(console: &mut Console, tape: usize, format: Format, verdict: Verdict, image: &[u8])
+    ensures { FailureStays console.old.failed console.new.failed }
 {
     if verdict.answer == MEMORY_NOT_FULL {
-        return say_refused(rt, IMAGE, image, failed);
+        return say_refused(console, IMAGE, image);
     }
-    say_verdict(rt, tape, format, verdict, failed);
+    say_verdict(console, tape, format, verdict);
 }
 
 // Keeps a memory. `tape` was laid onto `before`: only if all of it is good, and only what the definition says.
 fn keep(
-    rt: HostRuntime,
+    console: &mut Console,
     after: usize,
     tape: &[u8],
     before: &[u8],
     answer: u8,
     memory: &[u8],
-    failed: &mut u8,
 ) -> u8
     requires answer_value { (answer ≡ 0) × ((read_text tape.now before.now).answer ≡ 0) × (memory.now ≡ (read_text tape.now before.now).memory) }
-    requires failed_value { failed.old ≡ 0 }
-    ensures value { result ≡ first_of failed.new answer }
-    ensures failure_stays { FailureStays failed.old failed.new }
+    requires failed_value { console.old.failed ≡ 0 }
+    ensures value { result ≡ first_of console.new.failed answer }
+    ensures failure_stays { FailureStays console.old.failed console.new.failed }
 {
-    replace(rt, after, answer, memory, failed)
+    replace(console, after, answer, memory)
 }
 
 // Lays a tape onto an image, of which `before` is a copy, and keeps the memory only if the whole tape is good.
 fn load_onto(
-    rt: HostRuntime,
+    console: &mut Console,
     names: Names,
     tape: &[u8],
     before: &[u8],
     image: &mut [u8],
-    failed: &mut u8,
 ) -> u8
     requires { image.old ≡ before.now }
-    ensures { result ≡ first_of failed.new (read_text tape.now before.now).answer }
+    ensures { result ≡ first_of console.new.failed (read_text tape.now before.now).answer }
 {
     let verdict = read_text(tape, image);
-    explain(rt, names.tape, format_of(tape), verdict, before, failed);
-    if first_of(*failed, verdict.answer) != 0 {
-        return not_written(rt, names.after, verdict.answer, failed);
+    explain(console, names.tape, format_of(tape), verdict, before);
+    if first_of(console.failed, verdict.answer) != 0 {
+        return not_written(console, names.after, verdict.answer);
     }
-    keep(rt, names.after, tape, before, verdict.answer, image, failed)
+    keep(console, names.after, tape, before, verdict.answer, image)
 }
 
 // Loads a tape onto the image that is named, which is read into both buffers.
 fn load_image(
-    rt: HostRuntime,
+    console: &mut Console,
     names: Names,
     tape: &[u8],
     input: &mut [u8],
     image: &mut [u8],
-    failed: &mut u8,
 ) -> Done
     requires { length input.old ≤ length image.old }
-    ensures { result.status ≡ first_of failed.new (read_text tape.now (take result.size input.new)).answer }
+    ensures { result.status ≡ first_of console.new.failed (read_text tape.now (take result.size input.new)).answer }
 {
-    let size = read_two(rt, IMAGE, input, image, failed);
-    if *failed != 0 {
+    let size = console.read_two(IMAGE, input, image);
+    if console.failed != 0 {
         return Done {
             size: size,
-            status: *failed,
+            status: console.failed,
         };
     }
-    let status = load_onto(rt, names, tape, &input[..size], &mut image[..size], failed);
+    let status = load_onto(console, names, tape, &input[..size], &mut image[..size]);
     Done {
         size: size,
         status: status,
@@ -127,22 +117,22 @@ fn load_image(
 }
 
 // Loads a tape onto zeros.
-fn load_zeros(rt: HostRuntime, names: Names, tape: &[u8], failed: &mut u8) -> u8
-    ensures { result ≡ first_of failed.new (read_text tape.now (replicate full_memory 0)).answer }
+fn load_zeros(console: &mut Console, names: Names, tape: &[u8]) -> u8
+    ensures { result ≡ first_of console.new.failed (read_text tape.now (replicate full_memory 0)).answer }
 {
     let zeros = [0u8; FULL_MEMORY];
     let mut image = [0u8; FULL_MEMORY];
-    load_onto(rt, names, tape, &zeros, &mut image, failed)
+    load_onto(console, names, tape, &zeros, &mut image)
 }
 
 // Loads a tape that was read.
-fn load_tape(rt: HostRuntime, names: Names, onto: bool, tape: &[u8], failed: &mut u8) -> u8 {
+fn load_tape(console: &mut Console, names: Names, onto: bool, tape: &[u8]) -> u8 {
     if !onto {
-        return load_zeros(rt, names, tape, failed);
+        return load_zeros(console, names, tape);
     }
     let mut input = image_buffer();
     let mut image = image_buffer();
-    let done = load_image(rt, names, tape, &mut input, &mut image, failed);
+    let done = load_image(console, names, tape, &mut input, &mut image);
     done.status
 }
 
@@ -153,41 +143,35 @@ fn load(rt: HostRuntime, names: Names, onto: bool) -> u8 {
             b"load: AFTER is TAPE or IMAGE, which would be lost; name another file\n",
         );
     }
-    let mut failed = 0;
-    can_replace(rt, names.after, &mut failed);
-    if failed != 0 {
-        return failed;
+    let mut console = Console::new(rt);
+    can_replace(&mut console, names.after);
+    if console.failed != 0 {
+        return console.failed;
     }
     let mut tape = tape_buffer();
-    let size = read_tape_input(rt, names.tape, &mut tape, &mut failed);
-    if failed != 0 {
-        return failed;
+    let size = read_tape_input(&mut console, names.tape, &mut tape);
+    if console.failed != 0 {
+        return console.failed;
     }
-    load_tape(rt, names, onto, &tape[..size], &mut failed)
+    load_tape(&mut console, names, onto, &tape[..size])
 }
 
 fn load_by_names(rt: HostRuntime, from: usize, onto: bool) -> u8
     requires { from ≤ 255 }
 {
-    let tape = names_from(rt, from);
+    let usage =
+        b"load: give TAPE AFTER, and before them --onto IMAGE or nothing; ./run load --help\n";
+    let Some(tape) = names_from(rt, from) else {
+        return refuse(rt, usage);
+    };
     let after = tape + 1;
-    if tape == 0 || argument_count(rt) != after + 1 {
-        return refuse(
-            rt,
-            b"load: give TAPE AFTER, and before them --onto IMAGE or nothing; ./run load --help\n",
-        );
+    if argument_count(rt) != after + 1 {
+        return refuse(rt, usage);
     }
     if argument_is(rt, after, b"-") || argument_is(rt, after, b"") {
         return refuse(rt, b"load: AFTER is the name of a file\n");
     }
-    load(
-        rt,
-        Names {
-            tape: tape,
-            after: after,
-        },
-        onto,
-    )
+    load(rt, Names { tape, after }, onto)
 }
 
 fn load_by_arguments(rt: HostRuntime) -> u8 {

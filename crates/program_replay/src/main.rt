@@ -15,9 +15,7 @@ ghost use Rattle.console.specs.Failing.{FailureStays};
 ghost use Rattle.program_replay.specs.Verdicts.{faults, tally_of, replay_status};
 
 use compare::Verdict;
-use console::{
-    Done, argument_count, hand_over, names_from, read_input, refuse, say_of, write_output,
-};
+use console::{Console, Done, hand_over, name_from, refuse};
 use line::replay_line;
 use replay_list::next_line;
 use statuses::{check_status, first_of};
@@ -85,10 +83,10 @@ const LONGEST_DIFFERENCE: usize = 39;
 const LONGEST_TALLY: usize = 65;
 
 // Names a line that differs, and answers 1 for it.
-fn tell(rt: HostRuntime, line: u64, verdict: Verdict, failed: &mut u8) -> u64
+fn tell(console: &mut Console, line: u64, verdict: Verdict) -> u64
     ensures value { result ≡ faults verdict }
     ensures upper_bound { result ≤ 1 }
-    ensures failure_stays { FailureStays failed.old failed.new }
+    ensures failure_stays { FailureStays console.old.failed console.new.failed }
 {
     if let Verdict::Same = verdict {
         return 0;
@@ -99,7 +97,7 @@ fn tell(rt: HostRuntime, line: u64, verdict: Verdict, failed: &mut u8) -> u64
     let after_colon = put_text(&mut text, after_line, b": ");
     let word = word_of(verdict);
     let size = put_text(&mut text, after_colon, &word);
-    write_output(rt, &text[..size], failed);
+    console.write_output(&text[..size]);
     1
 }
 
@@ -110,9 +108,9 @@ fn memory_buffer() -> [u8; 65536]
     [0; 65536]
 }
 
-fn replay(rt: HostRuntime, text: &[u8], failed: &mut u8) -> Tally
+fn replay(console: &mut Console, text: &[u8]) -> Tally
     ensures value { result ≡ tally_of text.now }
-    ensures failure_stays { FailureStays failed.old failed.new }
+    ensures failure_stays { FailureStays console.old.failed console.new.failed }
 {
     let mut memory = memory_buffer();
     let mut expected = memory_buffer();
@@ -122,7 +120,7 @@ fn replay(rt: HostRuntime, text: &[u8], failed: &mut u8) -> Tally
     while at < text.len() {
         lines += 1;
         let verdict = replay_line(text, at, &mut memory, &mut expected);
-        differ += tell(rt, lines, verdict, failed);
+        differ += tell(console, lines, verdict);
         at = next_line(text, at);
     }
     Tally {
@@ -139,45 +137,45 @@ fn list_buffer() -> [u8; 2097152]
 }
 
 // The last line, and the status.
-fn conclude(rt: HostRuntime, tally: Tally, failed: &mut u8) -> u8
-    ensures value { result ≡ first_of failed.new (check_status tally.lines tally.differ) }
-    ensures failure_stays { FailureStays failed.old failed.new }
+fn conclude(console: &mut Console, tally: Tally) -> u8
+    ensures value { result ≡ first_of console.new.failed (check_status tally.lines tally.differ) }
+    ensures failure_stays { FailureStays console.old.failed console.new.failed }
 {
     let mut text = [0u8; LONGEST_TALLY];
     let after_lines = put_decimal(&mut text, 0, tally.lines);
     let after_words = put_text(&mut text, after_lines, b" steps replayed, ");
     let after_differ = put_decimal(&mut text, after_words, tally.differ);
     let size = put_text(&mut text, after_differ, b" differ\n");
-    write_output(rt, &text[..size], failed);
-    first_of(*failed, check_status(tally.lines, tally.differ))
+    console.write_output(&text[..size]);
+    first_of(console.failed, check_status(tally.lines, tally.differ))
 }
 
 // Makes the steps of a list again, and answers the status. One that fills its buffer is too long.
-fn replay_list(rt: HostRuntime, index: usize, text: &[u8], failed: &mut u8) -> u8
-    ensures value { result ≡ first_of failed.new (replay_status text.now) }
-    ensures failure_stays { FailureStays failed.old failed.new }
+fn replay_list(console: &mut Console, index: usize, text: &[u8]) -> u8
+    ensures value { result ≡ first_of console.new.failed (replay_status text.now) }
+    ensures failure_stays { FailureStays console.old.failed console.new.failed }
 {
     if text.len() == 2097152 {
-        say_of(rt, index, b"refused: the list is too long\n", failed);
-        return first_of(*failed, 1);
+        console.say_of(index, b"refused: the list is too long\n");
+        return first_of(console.failed, 1);
     }
-    let tally = replay(rt, text, failed);
-    conclude(rt, tally, failed)
+    let tally = replay(console, text);
+    conclude(console, tally)
 }
 
 // The same of the list that an argument names, which is read into `input`.
-fn replay_argument(rt: HostRuntime, index: usize, input: &mut [u8], failed: &mut u8) -> Done
-    ensures status_value { result.status ≡ first_of failed.new (replay_status (take result.size input.new)) }
-    ensures failure_stays { FailureStays failed.old failed.new }
+fn replay_argument(console: &mut Console, index: usize, input: &mut [u8]) -> Done
+    ensures status_value { result.status ≡ first_of console.new.failed (replay_status (take result.size input.new)) }
+    ensures failure_stays { FailureStays console.old.failed console.new.failed }
 {
-    let size = read_input(rt, index, input, failed);
-    if *failed != 0 {
+    let size = console.read_input(index, input);
+    if console.failed != 0 {
         return Done {
             size: size,
-            status: *failed,
+            status: console.failed,
         };
     }
-    let status = replay_list(rt, index, &input[..size], failed);
+    let status = replay_list(console, index, &input[..size]);
     Done {
         size: size,
         status: status,
@@ -185,16 +183,15 @@ fn replay_argument(rt: HostRuntime, index: usize, input: &mut [u8], failed: &mut
 }
 
 fn replay_by_arguments(rt: HostRuntime) -> u8 {
-    let name = names_from(rt, 1);
-    if name == 0 || name + 1 < argument_count(rt) {
+    let Some(name) = name_from(rt, 1) else {
         return refuse(
             rt,
             b"replay: the only argument is a list; ./run replay --help\n",
         );
-    }
+    };
     let mut input = list_buffer();
-    let mut failed: u8 = 0;
-    let done = replay_argument(rt, name, &mut input, &mut failed);
+    let mut console = Console::new(rt);
+    let done = replay_argument(&mut console, name, &mut input);
     done.status
 }
 

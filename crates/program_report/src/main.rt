@@ -22,15 +22,13 @@ ghost use Rattle.program_report.specs.Named.{WroteAfter, longest_named};
 ghost use Rattle.sentences.specs.Line.{longest_line};
 
 use console::{
-    address_argument, argument_count, argument_is, hand_over, names_from, note_failure, put_name,
-    read_two, refuse, write_output,
+    Console, Done, argument_count, hand_over, names_from, put_name, refuse, stop_option,
 };
 use console_ending::say_ending;
 use image::report;
 use memory::image_buffer;
 use sentences::LONGEST_LINE;
-use statuses::{Goal, first_of};
-use text_reading::NOWHERE;
+use statuses::{Goal, WRONG_USAGE, first_of};
 use text_writing::{put_byte, put_text};
 
 mod image; // image.rt: the run of an image, and its line
@@ -49,105 +47,77 @@ fn put_after(rt: HostRuntime, index: usize, text: &mut [u8], size: usize) -> usi
 }
 
 // Writes a line of so many characters, with the name after it if there are several.
-fn write_line(
-    rt: HostRuntime,
-    index: usize,
-    several: bool,
-    text: &mut [u8],
-    size: usize,
-    failed: &mut u8,
-)
+fn write_line(console: &mut Console, index: usize, several: bool, text: &mut [u8], size: usize)
     requires { (0 < size) × (size ≤ longest_line) × (length text.old ≡ longest_named) }
-    ensures { FailureStays failed.old failed.new }
+    ensures { FailureStays console.old.failed console.new.failed }
 {
     if several {
-        let end = put_after(rt, index, text, size);
-        write_output(rt, &text[..end], failed);
+        let end = put_after(console.rt, index, text, size);
+        console.write_output(&text[..end]);
         return;
     }
-    write_output(rt, &text[..size], failed);
+    console.write_output(&text[..size]);
 }
 
 // Reports an image that was read, and answers its status; if that failed, it is not run.
 fn report_image(
-    rt: HostRuntime,
+    console: &mut Console,
     index: usize,
     several: bool,
     goal: Goal,
     image: &mut [u8],
-    failed: &mut u8,
 ) -> u8
-    ensures value { result ≡ first_of failed.new (image_status goal image.old) }
-    ensures failure_stays { FailureStays failed.old failed.new }
+    ensures value { result ≡ first_of console.new.failed (image_status goal image.old) }
+    ensures failure_stays { FailureStays console.old.failed console.new.failed }
 {
-    if *failed != 0 {
-        return *failed;
+    if console.failed != 0 {
+        return console.failed;
     }
     let mut text = [0u8; LONGEST_NAMED];
     let reported = report(image, &mut text);
     let ended = reported.ended;
-    write_line(rt, index, several, &mut text, reported.size, failed);
-    let status = say_ending(rt, index, goal, ended, image, failed);
-    first_of(*failed, status)
+    write_line(console, index, several, &mut text, reported.size);
+    let status = say_ending(console, index, goal, ended, image);
+    first_of(console.failed, status)
 }
 
-// Reads the image that an argument names into `input`, reports it and notes its status: of several the first that is not 0
-// stays. It is run in `image`, so that `input` is left as it was read; the answer is its size.
+// Reads the image that an argument names into `input`, reports it and answers its status. It is run in `image`, so that `input`
+// is left as it was read.
 fn report_argument(
-    rt: HostRuntime,
+    console: &mut Console,
     index: usize,
     several: bool,
     goal: Goal,
     input: &mut [u8],
     image: &mut [u8],
-    failed: &mut u8,
-    status: &mut u8,
-) -> usize
+) -> Done
     requires { length input.old ≤ length image.old }
-    ensures status_after { status.new ≡ first_of status.old (first_of failed.new (image_status goal (take result input.new))) }
-    ensures failure_stays { FailureStays failed.old failed.new }
+    ensures status_value { result.status ≡ first_of console.new.failed (image_status goal (take result.size input.new)) }
+    ensures failure_stays { FailureStays console.old.failed console.new.failed }
 {
-    let size = read_two(rt, index, input, image, failed);
-    let own = report_image(rt, index, several, goal, &mut image[..size], failed);
-    note_failure(own, status);
-    size
+    let size = console.read_two(index, input, image);
+    let status = report_image(console, index, several, goal, &mut image[..size]);
+    Done { size, status }
 }
 
-// Reports the images that the arguments from an index on name, each with a cell of its own, or standard input if there
-// are none.
-fn report_all(rt: HostRuntime, from: usize, goal: Goal) -> u8 {
+// Reports the image that an argument names, in buffers and on a console of its own.
+fn report_one(rt: HostRuntime, index: usize, several: bool, goal: Goal) -> u8 {
     let mut input = image_buffer();
     let mut image = image_buffer();
-    let mut status: u8 = 0;
-    let mut failed: u8 = 0;
+    let mut console = Console::new(rt);
+    report_argument(&mut console, index, several, goal, &mut input, &mut image).status
+}
+
+// Reports the images that the arguments from an index on name, or standard input if there are none. Of several the first
+// status that is not 0 stays.
+fn report_all(rt: HostRuntime, from: usize, goal: Goal) -> u8 {
     let count = argument_count(rt);
     if count <= from {
-        report_argument(
-            rt,
-            from,
-            false,
-            goal,
-            &mut input,
-            &mut image,
-            &mut failed,
-            &mut status,
-        );
-        return status;
+        return report_one(rt, from, false, goal);
     }
-    let mut index = from;
-    while index < count {
-        failed = 0;
-        report_argument(
-            rt,
-            index,
-            1 < count - from,
-            goal,
-            &mut input,
-            &mut image,
-            &mut failed,
-            &mut status,
-        );
-        index += 1;
+    let mut status = 0;
+    for index in from..count {
+        status = first_of(status, report_one(rt, index, 1 < count - from, goal));
     }
     status
 }
@@ -155,28 +125,20 @@ fn report_all(rt: HostRuntime, from: usize, goal: Goal) -> u8 {
 fn report_from(rt: HostRuntime, from: usize, goal: Goal) -> u8
     requires { from ≤ 3 }
 {
-    let names = names_from(rt, from);
-    if names == 0 {
+    let Some(names) = names_from(rt, from) else {
         return refuse(
             rt,
             b"report: the only option is --stop ADDRESS, and it comes first; ./run report --help\n",
         );
-    }
+    };
     report_all(rt, names, goal)
 }
 
 fn report_by_arguments(rt: HostRuntime) -> u8 {
-    if !argument_is(rt, 1, b"--stop") {
-        return report_from(rt, 1, Goal::Unnamed);
+    match stop_option(rt, b"report") {
+        Some((from, goal)) => report_from(rt, from, goal),
+        None => WRONG_USAGE,
     }
-    let address = address_argument(rt, 2);
-    if address.next == NOWHERE {
-        return refuse(
-            rt,
-            b"report: after --stop comes an address, four capital hexadecimal digits\n",
-        );
-    }
-    report_from(rt, 3, Goal::At(address.value))
 }
 
 fn main(rt: HostRuntime) {

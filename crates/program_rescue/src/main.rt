@@ -23,7 +23,7 @@ ghost use Rattle.statuses.specs.Statuses.{first_of};
 ghost use Rattle.console.specs.Failing.{FailureStays};
 ghost use Rattle.program_rescue.specs.Status.{status_of};
 
-use console::{Done, argument_count, hand_over, names_from, refuse, say_of, write_output};
+use console::{Console, Done, hand_over, name_from, refuse};
 use console_tapes::{read_tape_input, say_verdict};
 use laws::answers::*;
 use statuses::{first_of, rescue_status};
@@ -31,58 +31,52 @@ use tape_loading::{Format, Verdict, judge_tape};
 use tape_paper::tape_buffer;
 use tape_rescuing::{LONGEST_SENTENCE, Rescued, put_sentence, rescue};
 
-fn explain(rt: HostRuntime, index: usize, rescued: Rescued, verdict: Verdict, failed: &mut u8)
-    ensures { FailureStays failed.old failed.new }
+fn explain(console: &mut Console, index: usize, rescued: Rescued, verdict: Verdict)
+    ensures { FailureStays console.old.failed console.new.failed }
 {
     let mut text = [0u8; LONGEST_SENTENCE];
     let size = put_sentence(&mut text, 0, rescued, verdict.answer);
-    say_of(rt, index, &text[..size], failed);
+    console.say_of(index, &text[..size]);
 }
 
 // Says why a reader refuses the old tape, if nothing else has told that it is not whole.
-fn explain_old(rt: HostRuntime, index: usize, rescued: Rescued, verdict: Verdict, failed: &mut u8)
-    ensures { FailureStays failed.old failed.new }
+fn explain_old(console: &mut Console, index: usize, rescued: Rescued, verdict: Verdict)
+    ensures { FailureStays console.old.failed console.new.failed }
 {
     if rescued.answer != NOT_REFUSED || rescued.dropped != 0 || verdict.answer == NOT_REFUSED {
         return;
     }
-    say_verdict(rt, index, Format::Tape, verdict, failed);
+    say_verdict(console, index, Format::Tape, verdict);
 }
 
 // Saves what can be saved of a tape into `text`, and prints it.
-fn rescue_tape(rt: HostRuntime, index: usize, tape: &[u8], text: &mut [u8], failed: &mut u8) -> u8
-    ensures { result ≡ first_of failed.new (status_of tape.now text.old) }
+fn rescue_tape(console: &mut Console, index: usize, tape: &[u8], text: &mut [u8]) -> u8
+    ensures { result ≡ first_of console.new.failed (status_of tape.now text.old) }
 {
     let rescued = rescue(tape, text);
     let size = rescued.size;
-    write_output(rt, &text[..size], failed);
+    console.write_output(&text[..size]);
     let verdict = judge_tape(tape);
-    explain(rt, index, rescued, verdict, failed);
-    explain_old(rt, index, rescued, verdict, failed);
+    explain(console, index, rescued, verdict);
+    explain_old(console, index, rescued, verdict);
     first_of(
-        *failed,
+        console.failed,
         rescue_status(rescued.answer, rescued.dropped, verdict.answer),
     )
 }
 
 // Saves the tape that an argument names. The buffers are lent, so that the promise can name what was read.
-fn rescue_input(
-    rt: HostRuntime,
-    index: usize,
-    tape: &mut [u8],
-    text: &mut [u8],
-    failed: &mut u8,
-) -> Done
-    ensures { result.status ≡ first_of failed.new (status_of (take result.size tape.new) text.old) }
+fn rescue_input(console: &mut Console, index: usize, tape: &mut [u8], text: &mut [u8]) -> Done
+    ensures { result.status ≡ first_of console.new.failed (status_of (take result.size tape.new) text.old) }
 {
-    let size = read_tape_input(rt, index, tape, failed);
-    if *failed != 0 {
+    let size = read_tape_input(console, index, tape);
+    if console.failed != 0 {
         return Done {
             size: size,
-            status: *failed,
+            status: console.failed,
         };
     }
-    let status = rescue_tape(rt, index, &tape[..size], text, failed);
+    let status = rescue_tape(console, index, &tape[..size], text);
     Done {
         size: size,
         status: status,
@@ -92,19 +86,18 @@ fn rescue_input(
 fn rescue_argument(rt: HostRuntime, index: usize) -> u8 {
     let mut tape = tape_buffer();
     let mut text = tape_buffer();
-    let mut failed = 0;
-    let done = rescue_input(rt, index, &mut tape, &mut text, &mut failed);
+    let mut console = Console::new(rt);
+    let done = rescue_input(&mut console, index, &mut tape, &mut text);
     done.status
 }
 
 fn rescue_by_arguments(rt: HostRuntime) -> u8 {
-    let index = names_from(rt, 1);
-    if index == 0 || index + 1 < argument_count(rt) {
+    let Some(index) = name_from(rt, 1) else {
         return refuse(
             rt,
             b"rescue: name one tape, or none for standard input; ./run rescue --help\n",
         );
-    }
+    };
     rescue_argument(rt, index)
 }
 

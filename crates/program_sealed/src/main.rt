@@ -28,8 +28,7 @@ ghost use Rattle.program_sealed.specs.Runs.{longest_word, left_file, run_status,
 ghost use Rattle.trace_line.specs.Lines.{longest_line};
 
 use console::{
-    Asked, Done, Names, hand_over, image_and_after, put_argument, put_printed, refuse, say, say_of,
-    steps_and_stop, write_output,
+    Console, Done, Names, argument, hand_over, image_and_after, put_printed, refuse, steps_and_stop,
 };
 use console_ending::say_ending;
 use console_files::{is_same_file, not_written, read_and_test, replace};
@@ -61,28 +60,21 @@ struct Work {
     steps: u64,
 }
 
-fn print_line(rt: HostRuntime, guarded: Guarded, failed: &mut u8)
-    ensures { FailureStays failed.old failed.new }
+fn print_line(console: &mut Console, guarded: Guarded)
+    ensures { FailureStays console.old.failed console.new.failed }
 {
     let mut text = [0u8; LONGEST_SEALED_LINE];
     let size = put_sealed_line(&mut text, 0, guarded);
-    write_output(rt, &text[..size], failed);
+    console.write_output(&text[..size]);
 }
 
 // Says how a run ended that was not halted.
-fn say_end(
-    rt: HostRuntime,
-    index: usize,
-    goal: Goal,
-    guarded: Guarded,
-    image: &[u8],
-    failed: &mut u8,
-)
-    ensures { FailureStays failed.old failed.new }
+fn say_end(console: &mut Console, index: usize, goal: Goal, guarded: Guarded, image: &[u8])
+    ensures { FailureStays console.old.failed console.new.failed }
 {
     match guarded {
         Guarded::Ran(ended) => {
-            say_ending(rt, index, goal, ended, image, failed);
+            say_ending(console, index, goal, ended, image);
         }
         Guarded::Halted(_) => {}
     }
@@ -90,22 +82,21 @@ fn say_end(
 
 // Says how the run ended and what can be sworn, and answers the status.
 fn swear(
-    rt: HostRuntime,
+    console: &mut Console,
     index: usize,
     goal: Goal,
     word: &[u8],
     guarded: Guarded,
     image: &[u8],
-    failed: &mut u8,
 ) -> u8
     requires { length word.now ≤ longest_word }
     ensures value { result ≡ sealed_status goal guarded }
-    ensures failure_stays { FailureStays failed.old failed.new }
+    ensures failure_stays { FailureStays console.old.failed console.new.failed }
 {
-    say_end(rt, index, goal, guarded, image, failed);
+    say_end(console, index, goal, guarded, image);
     let mut text = [0u8; LONGEST_OATH + LONGEST_WORD];
     let size = put_oath(&mut text, 0, word, guarded);
-    say_of(rt, index, &text[..size], failed);
+    console.say_of(index, &text[..size]);
     sealed_status(goal, guarded)
 }
 
@@ -126,86 +117,82 @@ fn put_left(file: &mut [u8], goal: Goal, guarded: Guarded) -> usize
 
 // Keeps a file that a run left. `input` is what was read: only if its status is 0, and only what the definition says.
 fn keep(
-    rt: HostRuntime,
+    console: &mut Console,
     after: usize,
     work: Work,
     sealed: &[u8; MAP_SIZE],
     input: &[u8],
     status: u8,
     file: &[u8],
-    failed: &mut u8,
 ) -> u8
     requires status_value { (status ≡ 0)
         × (run_status (in_map sealed.now) work input.now ≡ 0)
         × (file.now ≡ run_after (in_map sealed.now) work input.now) }
-    requires failed_value { failed.old ≡ 0 }
-    ensures value { result ≡ first_of failed.new status }
-    ensures failure_stays { FailureStays failed.old failed.new }
+    requires failed_value { console.old.failed ≡ 0 }
+    ensures value { result ≡ first_of console.new.failed status }
+    ensures failure_stays { FailureStays console.old.failed console.new.failed }
 {
-    replace(rt, after, status, file, failed)
+    replace(console, after, status, file)
 }
 
 // Runs what was read, in the copy of it that stands at the start of `image`, and keeps what it leaves there. `word` says what is
 // sealed.
 fn seal_file(
-    rt: HostRuntime,
+    console: &mut Console,
     names: Names,
     work: Work,
     word: &[u8],
     sealed: &[u8; MAP_SIZE],
     input: &[u8],
     image: &mut [u8],
-    failed: &mut u8,
 ) -> u8
     requires word_len_bound { length word.now ≤ longest_word }
     requires image_value { (take (length input.now) image.old ≡ input.now) × (length input.now ≤ length image.old) × (full_memory + longest_line ≤ length image.old) }
-    ensures value { result ≡ first_of failed.new (run_status (in_map sealed.now) work input.now) }
-    ensures failure_stays { FailureStays failed.old failed.new }
+    ensures value { result ≡ first_of console.new.failed (run_status (in_map sealed.now) work input.now) }
+    ensures failure_stays { FailureStays console.old.failed console.new.failed }
 {
     let size = input.len();
     let goal = work.goal;
-    let guarded = run_sealed(rt, work.steps, sealed, &mut image[..size]);
-    print_line(rt, guarded, failed);
-    let status = swear(rt, names.image, goal, word, guarded, &image[..size], failed);
-    if first_of(*failed, status) != 0 {
-        return not_written(rt, names.after, status, failed);
+    let guarded = run_sealed(console.rt, work.steps, sealed, &mut image[..size]);
+    print_line(console, guarded);
+    let status = swear(console, names.image, goal, word, guarded, &image[..size]);
+    if first_of(console.failed, status) != 0 {
+        return not_written(console, names.after, status);
     }
     let after_size = put_left(image, goal, guarded);
     keep(
-        rt,
+        console,
         names.after,
         work,
         sealed,
         input,
         status,
         &image[..after_size],
-        failed,
     )
 }
 
 // Reads the image into both buffers, and runs it in the second.
 fn seal_argument(
-    rt: HostRuntime,
+    console: &mut Console,
     names: Names,
     work: Work,
     word: &[u8],
     sealed: &[u8; MAP_SIZE],
     input: &mut [u8],
     image: &mut [u8],
-    failed: &mut u8,
 ) -> Done
     requires word_len_bound { length word.now ≤ longest_word }
     requires input_in_bounds { (length input.old ≤ length image.old) × (full_memory + longest_line ≤ length image.old) }
-    ensures { result.status ≡ first_of failed.new (run_status (in_map sealed.now) work (take result.size input.new)) }
+    ensures { result.status ≡ first_of console.new.failed (run_status (in_map sealed.now) work (take result.size input.new)) }
 {
-    let size = read_and_test(rt, names, input, image, failed);
-    if *failed != 0 {
+    let size = read_and_test(console, names, input, image);
+    if console.failed != 0 {
         return Done {
             size: size,
-            status: *failed,
+            status: console.failed,
         };
     }
-    let status = seal_file(rt, names, work, word, sealed, &input[..size], image, failed);
+    let status = seal_file(console, names, work, word, sealed, &input[..size], image);
     Done {
         size: size,
         status: status,
@@ -223,16 +210,15 @@ fn seal(rt: HostRuntime, names: Names, work: Work, word: &[u8], sealed: &[u8; MA
     }
     let mut input = image_buffer();
     let mut image = image_buffer();
-    let mut failed = 0;
+    let mut console = Console::new(rt);
     let done = seal_argument(
-        rt,
+        &mut console,
         names,
         work,
         word,
         sealed,
         &mut input,
         &mut image,
-        &mut failed,
     );
     done.status
 }
@@ -240,19 +226,9 @@ fn seal(rt: HostRuntime, names: Names, work: Work, word: &[u8], sealed: &[u8; MA
 fn seal_by_goal(rt: HostRuntime, names: Names, word: &[u8], sealed: &[u8; MAP_SIZE]) -> u8
     requires { length word.now ≤ longest_word }
 {
-    let asked = steps_and_stop(rt, b"sealed", 2);
-    match asked {
-        Asked::For(steps, goal) => seal(
-            rt,
-            names,
-            Work {
-                goal: goal,
-                steps: steps,
-            },
-            word,
-            sealed,
-        ),
-        Asked::Nothing => WRONG_USAGE,
+    match steps_and_stop(rt, b"sealed", 2) {
+        Some((steps, goal)) => seal(rt, names, Work { goal, steps }, word, sealed),
+        None => WRONG_USAGE,
     }
 }
 
@@ -260,11 +236,13 @@ fn seal_by_goal(rt: HostRuntime, names: Names, word: &[u8], sealed: &[u8; MAP_SI
 fn name_stretch(rt: HostRuntime, stretch: &[u8])
     requires { length stretch.now ≤ longest_word }
 {
-    let mut lost = 0;
     let mut text = word_buffer();
-    let size = put_printed(&mut text, 0, stretch);
-    say(rt, b"sealed: \"", &mut lost);
-    say(rt, &text[..size], &mut lost);
+    let mut out = Writer::new(&mut text);
+    put_printed(&mut out, stretch);
+    let size = out.place();
+    let mut console = Console::new(rt);
+    console.say(b"sealed: \"");
+    console.say(&text[..size]);
 }
 
 // Refuses the stretch that stands at a place of the word.
@@ -279,8 +257,7 @@ fn refuse_stretch(rt: HostRuntime, word: &[u8], at: usize, sentence: &[u8]) -> u
 
 fn seal_by_word(rt: HostRuntime, names: Names) -> u8 {
     let mut text = word_buffer();
-    let size = put_argument(rt, &mut text, 1);
-    let word = &text[..size];
+    let word = argument(rt, 1, &mut text);
     let mut sealed = empty_map();
     match read_stretches(word, &mut sealed) {
         Spelled::Well => seal_by_goal(rt, names, word, &sealed),
@@ -301,13 +278,12 @@ fn seal_by_word(rt: HostRuntime, names: Names) -> u8 {
 }
 
 fn seal_by_arguments(rt: HostRuntime) -> u8 {
-    let names = image_and_after(rt, 4);
-    if names.image == 0 {
+    let Some(names) = image_and_after(rt, 4) else {
         return refuse(
             rt,
             b"sealed: give STRETCHES STEPS STOP IMAGE AFTER; ./run sealed --help\n",
         );
-    }
+    };
     seal_by_word(rt, names)
 }
 

@@ -22,7 +22,7 @@ ghost use Rattle.console.specs.Failing.{FailureStays};
 ghost use Rattle.tape_paper.specs.Tapes.{tape_of};
 
 use crate::line::{LONGEST_LINE, put_line};
-use console::{Done, argument_count, hand_over, names_from, refuse, write_output};
+use console::{Console, Done, argument_count, hand_over, names_from, refuse};
 use console_tapes::{read_tape_input, say_verdict};
 use statuses::first_of;
 use tape_loading::{Format, Verdict, judge_tape};
@@ -31,12 +31,12 @@ use tape_rescuing::{Rescued, rescue};
 
 mod line; // line.rt: the line of a tape
 
-fn print_line(rt: HostRuntime, verdict: Verdict, rescued: Rescued, failed: &mut u8)
-    ensures { FailureStays failed.old failed.new }
+fn print_line(console: &mut Console, verdict: Verdict, rescued: Rescued)
+    ensures { FailureStays console.old.failed console.new.failed }
 {
     let mut text = [0u8; LONGEST_LINE];
     let size = put_line(&mut text, 0, verdict, rescued);
-    write_output(rt, &text[..size], failed);
+    console.write_output(&text[..size]);
 }
 
 fn rescue_for_counts(tape: &[u8]) -> Rescued {
@@ -45,28 +45,28 @@ fn rescue_for_counts(tape: &[u8]) -> Rescued {
 }
 
 // Surveys a tape, and answers its status.
-fn survey_tape(rt: HostRuntime, index: usize, tape: &[u8], failed: &mut u8) -> u8
-    ensures { result ≡ first_of failed.new (tape_of tape.now).answer }
+fn survey_tape(console: &mut Console, index: usize, tape: &[u8]) -> u8
+    ensures { result ≡ first_of console.new.failed (tape_of tape.now).answer }
 {
     let verdict = judge_tape(tape);
     let rescued = rescue_for_counts(tape);
-    print_line(rt, verdict, rescued, failed);
-    say_verdict(rt, index, Format::Tape, verdict, failed);
-    first_of(*failed, verdict.answer)
+    print_line(console, verdict, rescued);
+    say_verdict(console, index, Format::Tape, verdict);
+    first_of(console.failed, verdict.answer)
 }
 
 // Surveys the tape that an argument names. The buffer is lent, so that the promise can name what was read.
-fn survey_argument(rt: HostRuntime, index: usize, tape: &mut [u8], failed: &mut u8) -> Done
-    ensures { result.status ≡ first_of failed.new (tape_of (take result.size tape.new)).answer }
+fn survey_argument(console: &mut Console, index: usize, tape: &mut [u8]) -> Done
+    ensures { result.status ≡ first_of console.new.failed (tape_of (take result.size tape.new)).answer }
 {
-    let size = read_tape_input(rt, index, tape, failed);
-    if *failed != 0 {
+    let size = read_tape_input(console, index, tape);
+    if console.failed != 0 {
         return Done {
             size: size,
-            status: *failed,
+            status: console.failed,
         };
     }
-    let status = survey_tape(rt, index, &tape[..size], failed);
+    let status = survey_tape(console, index, &tape[..size]);
     Done {
         size: size,
         status: status,
@@ -76,19 +76,18 @@ fn survey_argument(rt: HostRuntime, index: usize, tape: &mut [u8], failed: &mut 
 // Surveys one tape in a buffer of its own.
 fn survey_one(rt: HostRuntime, index: usize) -> u8 {
     let mut tape = tape_buffer();
-    let mut failed = 0;
-    let done = survey_argument(rt, index, &mut tape, &mut failed);
+    let mut console = Console::new(rt);
+    let done = survey_argument(&mut console, index, &mut tape);
     done.status
 }
 
 fn survey_all(rt: HostRuntime) -> u8 {
-    let from = names_from(rt, 1);
-    if from == 0 {
+    let Some(from) = names_from(rt, 1) else {
         return refuse(
             rt,
             b"survey: name tapes, or none for standard input; ./run survey --help\n",
         );
-    }
+    };
     let count = argument_count(rt);
     if count <= from {
         return survey_one(rt, from);

@@ -15,43 +15,16 @@
 // What the lines, the sentence and the status say is promised by the crates trace_steps, console_showing and statuses.
 #![tactic(auto)]
 
-ghost use Rattle.std.specs.Prelude.{◌≤◌};
-
-use console::{
-    address_argument, argument_count, argument_is, count_argument, hand_over, names_from, refuse,
-};
-use console_showing::show_input;
-use statuses::Goal;
-use text_reading::NOWHERE;
+use console::{hand_over, stop_option};
+use console_showing::show_by_arguments;
+use statuses::WRONG_USAGE;
 use trace_text::View;
 
-// The arguments from an index on: the count, and the image.
-fn time_from(rt: HostRuntime, from: usize, goal: Goal) -> u8
-    requires { from ≤ 3 }
-{
-    let count = count_argument(rt, from);
-    let name = names_from(rt, from + 1);
-    if count.next == NOWHERE || name == 0 || name + 1 < argument_count(rt) {
-        return refuse(
-            rt,
-            b"timing: give the number of steps, in decimal, and one image; ./run timing --help\n",
-        );
-    }
-    show_input(rt, name, View::Steps, goal, count.value)
-}
-
 fn time_by_arguments(rt: HostRuntime) -> u8 {
-    if !argument_is(rt, 1, b"--stop") {
-        return time_from(rt, 1, Goal::Unnamed);
+    match stop_option(rt, b"timing") {
+        Some((from, goal)) => show_by_arguments(rt, b"timing", from, View::Steps, goal),
+        None => WRONG_USAGE,
     }
-    let address = address_argument(rt, 2);
-    if address.next == NOWHERE {
-        return refuse(
-            rt,
-            b"timing: after --stop comes an address, four capital hexadecimal digits\n",
-        );
-    }
-    time_from(rt, 3, Goal::At(address.value))
 }
 
 fn main(rt: HostRuntime) {

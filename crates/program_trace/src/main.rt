@@ -15,24 +15,11 @@
 // the lines is the theorem `trace_accepted`.
 #![tactic(auto)]
 
-use console::{argument_count, count_argument, hand_over, names_from, refuse};
-use console_showing::show_input;
+use console::hand_over;
+use console_showing::show_by_arguments;
 use statuses::Goal;
-use text_reading::NOWHERE;
 use trace_text::View;
 
-fn trace_by_arguments(rt: HostRuntime) -> u8 {
-    let count = count_argument(rt, 1);
-    let name = names_from(rt, 2);
-    if count.next == NOWHERE || name == 0 || name + 1 < argument_count(rt) {
-        return refuse(
-            rt,
-            b"trace: give the number of steps, in decimal, and one image; ./run trace --help\n",
-        );
-    }
-    show_input(rt, name, View::States, Goal::AllSteps, count.value)
-}
-
 fn main(rt: HostRuntime) {
-    hand_over(trace_by_arguments(rt));
+    hand_over(show_by_arguments(rt, b"trace", 1, View::States, Goal::AllSteps));
 }

@@ -2,16 +2,16 @@
 #![tactic(auto)]
 
 ghost use Rattle.std.specs.Prelude.{◌+◌, ◌≡◌, [], ◌++◌, length};
-ghost use Rattle.text_writing.specs.Written.{Wrote};
-ghost use Rattle.tape_records.specs.Inner.Items.{told};
+ghost use Rattle.text_writing.specs.Written.{Writes};
+ghost use Rattle.tape_records.specs.Inner.Items.{told, told_in};
 ghost use Rattle.tape_records.specs.Grammar.{newline};
 ghost use Rattle.tape_paper.specs.Tapes.{tape_item};
 ghost use Rattle.tape_paper.specs.Inner.Items.{told_by};
 ghost use Rattle.tape_paper.specs.Grammar.{record_text};
 
-use laws::answers::*;
-use tape_records::{Found, Item, Parts, read_record};
-use text_writing::{put_hex4, put_text};
+use laws::answers::Refusal;
+use tape_records::{Head, Item, Parts, put_head, read_record};
+use text_writing::Writer;
 
 // Room for the tape of a full memory in records of one byte, which has 983,038 characters.
 pub fn tape_buffer() -> [u8; 1048576]
@@ -21,44 +21,43 @@ pub fn tape_buffer() -> [u8; 1048576]
 }
 
 // A record by its numbers, after so many data records.
-pub fn judge(parts: Parts, before: u64) -> Item
-    ensures { result ≡ told_by before parts }
+pub fn judge(parts: Parts, before: u64) -> Result<Item, Refusal>
+    ensures { told_in result ≡ told_by before parts }
 {
     if parts.sum != parts.last {
-        return Item::Bad(WRONG_SUM);
+        return Err(Refusal::WrongSum);
     }
-    if parts.count == 0 {
-        if parts.address as u64 == before {
-            return Item::End;
+    if parts.head.count == 0 {
+        if parts.head.address as u64 == before {
+            return Ok(Item::End);
         }
-        return Item::Bad(NO_END);
+        return Err(Refusal::NoEnd);
     }
-    if 65536 < (parts.address as u32) + (parts.count as u32) {
-        return Item::Bad(PAST_THE_END);
+    if parts.head.ends_past() {
+        return Err(Refusal::PastTheEnd);
     }
-    Item::Data {
-        address: parts.address,
-        count: parts.count,
-    }
+    Ok(Item::Data(parts.head))
 }
 
 // The record with which a text begins.
-pub fn read_item(text: &[u8], before: u64) -> Item
-    ensures { result ≡ told (tape_item before text.now) }
+pub fn read_item(text: &[u8], before: u64) -> Result<Item, Refusal>
+    ensures { told_in result ≡ told (tape_item before text.now) }
 {
-    match read_record(text, b';') {
-        Found::Malformed => Item::Bad(MALFORMED_RECORD),
-        Found::Record(parts) => judge(parts, before),
-    }
+    let Some(parts) = read_record(text, b';') else {
+        return Err(Refusal::MalformedRecord);
+    };
+    judge(parts, before)
 }
 
 // The end record, of so many data records.
-pub fn put_end(out: &mut [u8], at: usize, number: u16) -> usize
-    ensures { Wrote out.old at (record_text number [] ++ newline) out.new result }
+pub fn put_end(out: &mut Writer, number: u16)
+    ensures { Writes out.old (record_text number [] ++ newline) out.new }
 {
-    let sum = number / 256 + number % 256;
-    let after_head = put_text(out, at, b";00");
-    let after_number = put_hex4(out, after_head, number);
-    let after_sum = put_hex4(out, after_number, sum);
-    put_text(out, after_sum, b"\r\n")
+    let head = Head {
+        address: number,
+        count: 0,
+    };
+    put_head(out, b';', head);
+    out.put_hex4(head.sum());
+    out.put_text(b"\r\n");
 }

@@ -1,2 +1,4 @@
 pub mod Numbers
+pub mod Found
+pub mod Inner
 pub mod Lemmas

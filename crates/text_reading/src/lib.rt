@@ -1,182 +1,125 @@
-// Readers of a text: digits, the numbers made of them, and marks.
-//
-// Every reader is handed a text and a place in it, and answers what it read and the next place. If the text has
-// something else that place is NOWHERE, at which every reader fails again: a caller tests for it once, at the end.
+// Readers of a text: digits, the numbers made of them, and marks. Every reader is handed a text and a place in it, and answers
+// what it read there and where the text goes on; none if the text has something else.
 #![tactic(auto)]
 
-ghost use Rattle.std.specs.Prelude.{◌≡◌, ◌≤◌, ◌<◌, drop};
+ghost use Rattle.std.specs.Prelude.{◌≡◌, ◌≤◌, ◌<◌, cond, eqb, length, drop, Some, None};
 ghost use Rattle.text_reading.specs.Numbers.{digit_value, digit_at, byte_at, word_at, count_at, mark_at, whole_word, whole_count};
+ghost use Rattle.text_reading.specs.Found.{found, place_found, value_found};
+ghost use Rattle.text_reading.specs.Inner.Characters.{character_at, digit_found};
 
-// A place past every text: the largest usize.
-pub const NOWHERE: usize = 18446744073709551615;
-
-// A byte that was read, and where the text goes on.
+// What was read, and where the text goes on.
 #[derive(Clone, Copy)]
-pub struct Byte {
-    pub value: u8,
+pub struct Reading<T> {
+    pub value: T,
     pub next: usize,
 }
 
-// The same for 16 bits.
-#[derive(Clone, Copy)]
-pub struct Word {
-    pub value: u16,
-    pub next: usize,
-}
-
-// The same for 64 bits.
-#[derive(Clone, Copy)]
-pub struct Count {
-    pub value: u64,
-    pub next: usize,
+impl<T: Copy> Reading<T> {
+    // The value, if it is all that the text has.
+    fn only(self, text: &[u8]) -> Option<T>
+        ensures { result ≡ cond (eqb self.next (length text.now)) (Some self.value) None }
+    {
+        (self.next == text.len()).then_some(self.value)
+    }
 }
 
 // The text from a place on; nothing if that lies past the end.
 pub fn rest(text: &[u8], at: usize) -> &[u8]
     ensures { result.now ≡ drop at text.now }
 {
-    let end = text.len();
-    if at < end { &text[at..] } else { &text[end..] }
+    &text[at.min(text.len())..]
 }
 
-// The value of a digit, 16 for any other character. Lower case is no digit.
-fn digit_value(character: u8) -> u8
-    ensures { result ≡ digit_value character }
+// The value of a digit. Lower case is no digit.
+#[tactic(auto, using(crate::specs::Lemmas::Numbers::figure, crate::specs::Lemmas::Numbers::letter, crate::specs::Lemmas::Numbers::below, crate::specs::Lemmas::Numbers::between, crate::specs::Lemmas::Numbers::above))]
+fn digit_value(character: u8) -> Option<u8>
+    ensures { result ≡ digit_found (digit_value character) }
 {
-    if character < b'0' {
-        return 16;
+    match character {
+        b'0'..=b'9' => Some(character - b'0'),
+        b'A'..=b'F' => Some(character - b'A' + 10),
+        _ => None,
     }
-    if character <= b'9' {
-        return character - b'0';
-    }
-    if character < b'A' {
-        return 16;
-    }
-    if character <= b'F' {
-        return character - b'A' + 10;
-    }
-    16
+}
+
+// One character. The largest usize is the end of no text: in specs/ it is the place after what was not found.
+fn read_character(text: &[u8], at: usize) -> Option<Reading<u8>>
+    ensures { result ≡ found (character_at text.now at) }
+{
+    let &value = text.get(at)?;
+    let next = at + 1;
+    (next < usize::MAX).then_some(Reading { value, next })
 }
 
 // One digit of a base.
-fn read_digit(text: &[u8], at: usize, base: u8) -> Byte
+fn read_digit(text: &[u8], at: usize, base: u8) -> Option<Reading<u8>>
     requires { base ≤ 16 }
-    ensures value { result ≡ digit_at base text.now at }
-    ensures value_bound { result.value < 16 }
+    ensures { result ≡ found (digit_at base text.now at) }
 {
-    if text.len() <= at {
-        return Byte {
-            value: 0,
-            next: NOWHERE,
-        };
-    }
-    let value = digit_value(text[at]);
-    if value < base {
-        return Byte {
-            value: value,
-            next: at + 1,
-        };
-    }
-    Byte {
-        value: 0,
-        next: NOWHERE,
-    }
+    let character = read_character(text, at)?;
+    let value = digit_value(character.value)?;
+    (value < base).then_some(Reading { value, ..character })
 }
 
 // Two hexadecimal digits.
-pub fn read_byte(text: &[u8], at: usize) -> Byte
-    ensures { result ≡ byte_at text.now at }
+pub fn read_byte(text: &[u8], at: usize) -> Option<Reading<u8>>
+    ensures { result ≡ found (byte_at text.now at) }
 {
-    let high = read_digit(text, at, 16);
-    let low = read_digit(text, high.next, 16);
-    Byte {
+    let high = read_digit(text, at, 16)?;
+    let low = read_digit(text, high.next, 16)?;
+    Some(Reading {
         value: high.value * 16 + low.value,
         next: low.next,
-    }
+    })
 }
 
 // Four hexadecimal digits.
-pub fn read_word(text: &[u8], at: usize) -> Word
-    ensures { result ≡ word_at text.now at }
+pub fn read_word(text: &[u8], at: usize) -> Option<Reading<u16>>
+    ensures { result ≡ found (word_at text.now at) }
 {
-    let high = read_byte(text, at);
-    let low = read_byte(text, high.next);
-    Word {
+    let high = read_byte(text, at)?;
+    let low = read_byte(text, high.next)?;
+    Some(Reading {
         value: (high.value as u16) * 256 + (low.value as u16),
         next: low.next,
-    }
+    })
 }
 
 // Decimal digits: one at least, and no more than 20. A number that 64 bits do not hold is refused.
-pub fn read_count(text: &[u8], at: usize) -> Count
-    ensures { result ≡ count_at text.now at }
+pub fn read_count(text: &[u8], at: usize) -> Option<Reading<u64>>
+    ensures { result ≡ found (count_at text.now at) }
 {
-    let first = read_digit(text, at, 10);
+    let first = read_digit(text, at, 10)?;
     let mut value = first.value as u64;
     let mut next = first.next;
-    let mut left: u64 = 19;
-    while 0 < left {
-        let digit = read_digit(text, next, 10);
-        if digit.next == NOWHERE {
-            return Count {
-                value: value,
-                next: next,
-            };
-        }
-        let unit = digit.value as u64;
-        if (18446744073709551615 - unit) / 10 < value {
-            return Count {
-                value: 0,
-                next: NOWHERE,
-            };
-        }
-        value = value * 10 + unit;
+    for _ in 1..20u64 {
+        let Some(digit) = read_digit(text, next, 10) else {
+            break;
+        };
+        value = value.checked_mul(10)?.checked_add(digit.value as u64)?;
         next = digit.next;
-        left -= 1;
     }
-    Count {
-        value: value,
-        next: next,
-    }
+    Some(Reading { value, next })
 }
 
-// The one character that has to stand there.
-pub fn read_mark(text: &[u8], at: usize, mark: u8) -> usize
-    ensures { result ≡ mark_at mark text.now at }
+// The place after the one character that has to stand there.
+pub fn read_mark(text: &[u8], at: usize, mark: u8) -> Option<usize>
+    ensures { result ≡ place_found (mark_at mark text.now at) }
 {
-    if text.len() <= at {
-        return NOWHERE;
-    }
-    if text[at] == mark {
-        return at + 1;
-    }
-    NOWHERE
+    let character = read_character(text, at)?;
+    (character.value == mark).then_some(character.next)
 }
 
 // A text that is four hexadecimal digits and nothing else.
-pub fn whole_word(text: &[u8]) -> Word
-    ensures { result ≡ whole_word text.now }
+pub fn whole_word(text: &[u8]) -> Option<u16>
+    ensures { result ≡ value_found (whole_word text.now) }
 {
-    let word = read_word(text, 0);
-    if word.next == text.len() {
-        return word;
-    }
-    Word {
-        value: 0,
-        next: NOWHERE,
-    }
+    read_word(text, 0)?.only(text)
 }
 
 // A text that is a decimal number and nothing else.
-pub fn whole_count(text: &[u8]) -> Count
-    ensures { result ≡ whole_count text.now }
+pub fn whole_count(text: &[u8]) -> Option<u64>
+    ensures { result ≡ value_found (whole_count text.now) }
 {
-    let count = read_count(text, 0);
-    if count.next == text.len() {
-        return count;
-    }
-    Count {
-        value: 0,
-        next: NOWHERE,
-    }
+    read_count(text, 0)?.only(text)
 }

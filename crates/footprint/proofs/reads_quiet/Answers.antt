@@ -6,4 +6,4 @@ use Rattle.footprint.proofs.reads_quiet.Goals as goal
 pub returns : goal.returns
 returns c =
     let a = c.args in
-    c.reads_by.ensures ∙ quiet_list a.registers a.memory.now _ _ c.get_byte-opcode.ensures c.reading_way.ensures
+    c.reads_by.ensures ∙ quiet_list a.registers a.memory.now _ c.get_byte-opcode.ensures _ c.reading_way.ensures

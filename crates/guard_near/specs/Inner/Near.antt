@@ -12,7 +12,6 @@ use Rattle.manual.specs.Words.{low_byte, address_of, joined}
 use Rattle.manual.specs.ReadList.{addressed, first_operand, pointer_at, listed_due}
 use Rattle.manual.specs.StoreList.{stored_by_due}
 use Rattle.footprint.specs.Inner.Ways.{Way, zero_page, zero_page_plus, absolute, pointer_x, pointed, nothing}
-use Rattle.guard_maps.specs.declared.Found.{Found}
 use Rattle.guard_maps.specs.Maps.{first_in}
 
 -- ---- nothing is guarded
@@ -35,7 +34,7 @@ module _ (reads stores : ℕ → Bool) where
 
   -- in all that the byte at the counter reads and stores to
   abbrev pub Untouched : Registers → List ℕ → Type 0
-  Untouched r m = (first_in reads (listed_due None r m) ≡ Found.Nothing) × (first_in stores (stored_by_due None r m) ≡ Found.Nothing)
+  Untouched r m = (first_in reads (listed_due None r m) ≡ None) × (first_in stores (stored_by_due None r m) ≡ None)
 
 -- ---- the regions by number
 

@@ -21,7 +21,6 @@ use Rattle.manual.specs.Addressing.{operand, target}
 use Rattle.manual.specs.ReadList.{addressed, operands, pointers, reached, listed, listed_entry}
 use Rattle.manual.specs.StoreList.{aim, stored_to, stored_by_entry}
 use Rattle.footprint.specs.Lemmas.Arms.{Arm, codes_at, given_at, Rest, arm_right, last_right}
-use Rattle.guard_maps.specs.declared.Found.{Found}
 use Rattle.guard_maps.specs.Maps.{in_map, first_in}
 use Rattle.guard_maps.specs.Lemmas.Maps.{none_in}
 use Rattle.guard_near.specs.Inner.Near.{Free, AllFree, LowFree, CodeFree, Untouched, around_stack, regions, region_by, region_to, region_for, region_of_entry, region_of}
@@ -160,39 +159,39 @@ in_region reads stores r m n e l f = (omega (arith, e), rw e f)
 -- ---- lists
 
 module _ (guards : ℕ → Bool) where
-  pub none_first : first_in guards [] ≡ Found.Nothing
+  pub none_first : first_in guards [] ≡ None
   unfolding first_in
   none_first = refl
 
-  pub not_first : (a : ℕ) (l : List ℕ) → guards a ≡ false → first_in guards l ≡ Found.Nothing → first_in guards (a ∷ l) ≡ Found.Nothing
+  pub not_first : (a : ℕ) (l : List ℕ) → guards a ≡ false → first_in guards l ≡ None → first_in guards (a ∷ l) ≡ None
   unfolding first_in
   not_first a l e f = simp e f
 
 module _ (reads stores : ℕ → Bool) (r : Registers) (m : List ℕ) (code : CodeFree reads r.counter) where
   -- what is read on the way to the byte of a mode, with it and without, and a store to it
   record Reaches (mode : AddressingMode) : Type 0 where
-    with : first_in reads (operands mode r ++ pointers mode r m ++ reached mode r m) ≡ Found.Nothing
-    without : first_in reads (operands mode r ++ pointers mode r m) ≡ Found.Nothing
-    into : addressed mode ≡ true → first_in stores (aim mode r m ∷ []) ≡ Found.Nothing
+    with : first_in reads (operands mode r ++ pointers mode r m ++ reached mode r m) ≡ None
+    without : first_in reads (operands mode r ++ pointers mode r m) ≡ None
+    into : addressed mode ≡ true → first_in stores (aim mode r m ∷ []) ≡ None
 
   -- after the opcode
-  none : first_in reads [] ≡ Found.Nothing
+  none : first_in reads [] ≡ None
   none = none_first reads
 
-  one : (l : List ℕ) → first_in reads l ≡ Found.Nothing → first_in reads (operand r 1 ∷ l) ≡ Found.Nothing
+  one : (l : List ℕ) → first_in reads l ≡ None → first_in reads (operand r 1 ∷ l) ≡ None
   one l = not_first reads (operand r 1) l code.1
 
-  two : (l : List ℕ) → first_in reads l ≡ Found.Nothing → first_in reads (operand r 1 ∷ operand r 2 ∷ l) ≡ Found.Nothing
+  two : (l : List ℕ) → first_in reads l ≡ None → first_in reads (operand r 1 ∷ operand r 2 ∷ l) ≡ None
   two l f = one _ (not_first reads (operand r 2) l code.2 f)
 
   -- an address that is not guarded
-  read : (a : ℕ) (l : List ℕ) → Free reads stores a → first_in reads l ≡ Found.Nothing → first_in reads (a ∷ l) ≡ Found.Nothing
+  read : (a : ℕ) (l : List ℕ) → Free reads stores a → first_in reads l ≡ None → first_in reads (a ∷ l) ≡ None
   read a l free f = not_first reads a l free.0 f
 
-  stored : (a : ℕ) (l : List ℕ) → Free reads stores a → first_in stores l ≡ Found.Nothing → first_in stores (a ∷ l) ≡ Found.Nothing
+  stored : (a : ℕ) (l : List ℕ) → Free reads stores a → first_in stores l ≡ None → first_in stores (a ∷ l) ≡ None
   stored a l free f = not_first stores a l free.1 f
 
-  last : (a : ℕ) → Free reads stores a → first_in stores (a ∷ []) ≡ Found.Nothing
+  last : (a : ℕ) → Free reads stores a → first_in stores (a ∷ []) ≡ None
   last a free = stored a [] free (none_first stores)
 
   unaddressed : {A : Type 0} → false ≡ true → A
@@ -218,7 +217,7 @@ module _ (reads stores : ℕ → Bool) (r : Registers) (m : List ℕ) (code : Co
 
   -- what an instruction reads after its opcode, and what it stores to
   abbrev Passes : Instruction → AddressingMode → Type 0
-  Passes i mode = (first_in reads (listed i mode r m) ≡ Found.Nothing) × (first_in stores (stored_to i mode r m) ≡ Found.Nothing)
+  Passes i mode = (first_in reads (listed i mode r m) ≡ None) × (first_in stores (stored_to i mode r m) ≡ None)
 
   store_passes : (k : StoreOperation) (mode : AddressingMode) (t : Bool) → addressed mode ≡ t → cond t (region_to mode) 10 < 10
       → AllFree reads stores (region_by (cond t (region_to mode) 10) r m) → Passes (Store k) mode
@@ -259,7 +258,7 @@ module _ (reads stores : ℕ → Bool) (r : Registers) (m : List ℕ) (code : Co
   passes BRK mode l f = absurd (omega arith)
 
   entry_passes : (d : Option Entry) → region_of_entry d < 10 → AllFree reads stores (region_by (region_of_entry d) r m)
-      → (first_in reads (listed_entry d r m) ≡ Found.Nothing) × (first_in stores (stored_by_entry d r m) ≡ Found.Nothing)
+      → (first_in reads (listed_entry d r m) ≡ None) × (first_in stores (stored_by_entry d r m) ≡ None)
   entry_passes (Some e) l f = passes e.instruction e.mode l f
   entry_passes None l f = (none, none_first stores)
 

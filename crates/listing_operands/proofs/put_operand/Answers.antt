@@ -8,5 +8,5 @@ returns c =
     rw (operand_filled s.mode s.memory.now s.address
     c.plus.ensures c.get_byte-byte.ensures
     c.plus-after.ensures c.get_byte.ensures c.join-word.ensures
-    c.branch_target-target.ensures
-    c.pattern-notation.ensures) at c.put_pattern.ensures
+    c.branch_target.ensures
+    c.pattern.ensures) at c.put_pattern.ensures

@@ -1,7 +1,7 @@
 -- Laws of Patterns.antt.
-use Rattle.std.specs.Prelude.{ℕ, ◌+◌, ◌<◌, ◌≤◌, ◌≡◌, List, [], ◌∷◌, ◌++◌, length, take, get_or}
+use Rattle.std.specs.Prelude.{ℕ, ◌+◌, ◌<◌, ◌≡◌, List, [], ◌∷◌, ◌++◌, length, take, get_or}
 use Rattle.std.proofs.Math.Path.{refl}
-use Rattle.std.proofs.Common.{append_assoc, append-nil, add-one, take-suc, take_all}
+use Rattle.std.proofs.Common.{append_assoc, append-nil, add-one, take-suc}
 use Rattle.instruction.specs.declared.AddressingMode.{AddressingMode}
 use Rattle.instruction.specs.declared.AddressingMode.TheVariants.{Accumulator, Implied, Immediate, ZeroPage, ZeroPageX, ZeroPageY, Relative, Absolute, AbsoluteX, AbsoluteY, BuggyIndirect, IndexedIndirectX, IndirectIndexedY}
 use Rattle.manual.specs.Words.{address_of, joined}
@@ -15,13 +15,10 @@ module _ (byte word target : ℕ) where
   join [] t = refl
   join (c ∷ s) t = rw (join s t, append_assoc)
 
-  -- One more character, and all of them.
+  -- One more character.
   pub filled_more : (pattern : List ℕ) (i : ℕ) → i < length pattern
       → filled byte word target (take (i + 1) pattern) ≡ filled byte word target (take i pattern) ++ stands_for byte word target (get_or pattern i 0)
   filled_more pattern i h = rw (add-one i, take-suc pattern i 0 h, join (take i pattern) (get_or pattern i 0 ∷ []), append-nil)
-
-  pub filled_all : (pattern : List ℕ) (i : ℕ) → length pattern ≤ i → filled byte word target (take i pattern) ≡ filled byte word target pattern
-  filled_all pattern i h = rw (take_all i pattern h)
 
   by_mode : (mode : AddressingMode) → filled byte word target (pattern_of mode) ≡ written mode (hex2 byte) (hex4 word) (hex4 target)
   unfolding pattern_of written

@@ -2,8 +2,8 @@
 use Rattle.std.specs.Prelude.{ℕ, ◌+◌, ◌/◌, ◌%◌, Bool, cond, not, eqb, ltb}
 use Rattle.laws.specs.Answers.{malformed_record, wrong_sum, past_the_end, no_end}
 use Rattle.tape_records.specs.declared.Parts.{Parts}
-use Rattle.tape_records.specs.declared.Item.{Item as Told}
-use Rattle.tape_records.specs.declared.Item.TheVariants.{Data, End, Bad}
+use Rattle.tape_records.specs.Inner.Items.{Told}
+use Rattle.tape_records.specs.Inner.Items.{Data, End, Bad}
 
 -- by the numbers that the code has
 abbrev pub sum_right : Parts → Bool
@@ -11,13 +11,13 @@ sum_right p = eqb ((p.sum % 256 + p.last / 256 + p.last % 256) % 256) 0
 
 abbrev pub told_data : ℕ → Parts → Told
 told_data before p =
-    cond (eqb p.count 0) (Bad malformed_record)
+    cond (eqb p.head.count 0) (Bad malformed_record)
     (cond (not (sum_right p)) (Bad wrong_sum)
-    (cond (ltb 65536 (p.address + p.count)) (Bad past_the_end)
-    (cond (ltb before 65535) (Data p.address p.count) (Bad no_end))))
+    (cond (ltb 65536 (p.head.address + p.head.count)) (Bad past_the_end)
+    (cond (ltb before 65535) (Data p.head.address p.head.count) (Bad no_end))))
 
 abbrev pub told_end : Parts → Told
-told_end p = cond (not (sum_right p)) (Bad wrong_sum) (cond (eqb p.count 0) (cond (eqb p.address 0) End (Bad malformed_record)) (Bad malformed_record))
+told_end p = cond (not (sum_right p)) (Bad wrong_sum) (cond (eqb p.head.count 0) (cond (eqb p.head.address 0) End (Bad malformed_record)) (Bad malformed_record))
 
 -- and by the byte that is its type
 abbrev pub told_by : ℕ → ℕ → Parts → Told

@@ -1,5 +1,5 @@
 -- Laws of Items.antt.
-use Rattle.std.specs.Prelude.{ℕ, ◌+◌, ◌/◌, ◌%◌, ◌≤◌, ◌≡◌, refl, Bool, true, false, cond, not, List, [], ◌∷◌, eqb, ltb, length, get_or, take, drop}
+use Rattle.std.specs.Prelude.{ℕ, ◌+◌, ◌/◌, ◌%◌, ◌≤◌, ◌≡◌, refl, Bool, true, false, cond, not, List, [], ◌∷◌, eqb, ltb, length, get_or, take, drop, Some, None}
 use Rattle.std.proofs.Math.Path.{ap}
 use Rattle.std.proofs.Common.{sym, ◌∙◌, arith, length-drop, take-append-drop, length-take-le, get_or-take, get_or-drop}
 use Rattle.std.proofs.Math.Option.{Option, some}
@@ -7,8 +7,7 @@ use Rattle.laws.specs.Answers.{malformed_record, wrong_sum, past_the_end, no_end
 use Rattle.text_reading.specs.Numbers.{nowhere, byte_at}
 use Rattle.text_reading.specs.declared.Byte.{Byte}
 use Rattle.tape_records.specs.declared.Parts.{Parts}
-use Rattle.tape_records.specs.declared.Found.TheVariants.{Record, Malformed}
-use Rattle.tape_records.specs.declared.Item.TheVariants.{Data, End, Bad}
+use Rattle.tape_records.specs.Inner.Items.{Data, End, Bad}
 use Rattle.tape_records.specs.Records.{record_of, count, address, sum, last, total, word, Bytes}
 use Rattle.tape_records.specs.Inner.Reading.{found, parts_of}
 use Rattle.tape_records.specs.Contents.{Stretch, stretch, finish, bad}
@@ -70,7 +69,7 @@ module _ (bs : List ℕ) (whole : length bs ≡ count bs + 5) (small : Bytes bs)
       ∙ rw (told_cond (eqb (type bs) 1) (end_item bs) (bad malformed_record), data_by_parts before, end_by_parts)
 
 module _ (before : ℕ) (s : List ℕ) where
-  pub item_malformed : Malformed ≡ found (record_of 58 s) → told (hex_item before s) ≡ Bad malformed_record
+  pub item_malformed : None ≡ found (record_of 58 s) → told (hex_item before s) ≡ Bad malformed_record
   unfolding hex_item
   item_malformed e = ap (λ (o : Option (List ℕ)). told (judge before o)) (none_found (record_of 58 s) e)
 
@@ -81,7 +80,7 @@ module _ (before : ℕ) (s : List ℕ) where
       ∙ get_or-drop 3 bs 0 0
 
   -- the type is the byte that is read after the address
-  pub item_by_parts : (p : Parts) {t : List ℕ} {kind : Byte} → Record p ≡ found (record_of 58 s) → length s ≤ nowhere → t ≡ drop 7 s
+  pub item_by_parts : (p : Parts) {t : List ℕ} {kind : Byte} → Some p ≡ found (record_of 58 s) → length s ≤ nowhere → t ≡ drop 7 s
       → kind ≡ byte_at t 0 → told (hex_item before s) ≡ told_by before kind.value p
   unfolding hex_item
   item_by_parts p {t} {kind} e fits r k =

@@ -5,8 +5,8 @@ use borrow.Author.Tests.{lt-ltb, le-ltb}
 use Rattle.laws.specs.Answers.{not_refused, malformed_record, no_end}
 use Rattle.tape_records.specs.Contents.{Stretch, stretch}
 use Rattle.tape_records.specs.Inner.Gaps.{gap_end}
-use Rattle.tape_records.specs.declared.Item.{Item as Told}
-use Rattle.tape_records.specs.declared.Item.TheVariants.{Data, End, Bad}
+use Rattle.tape_records.specs.Inner.Items.{Told}
+use Rattle.tape_records.specs.Inner.Items.{Data, End, Bad}
 use Rattle.tape_records.specs.Inner.Items.{told}
 use Rattle.tape_records.specs.Lemmas.Items.{told_bad, told_end_lem, told_data_lem}
 use Rattle.tape_loading.specs.declared.Format.{Format}

@@ -1,17 +1,16 @@
 -- Laws of Items.antt.
-use Rattle.std.specs.Prelude.{ℕ, ◌+◌, ◌<◌, ◌≡◌, refl, Bool, true, false, cond, not, List, eqb, ltb, length, take, drop}
+use Rattle.std.specs.Prelude.{ℕ, ◌+◌, ◌<◌, ◌≡◌, refl, Bool, true, false, cond, not, List, eqb, ltb, length, take, drop, Some, None}
 use Rattle.std.proofs.Math.Path.{ap}
 use Rattle.std.proofs.Common.{sym, ◌∙◌, arith, length-drop, length-take-le}
 use Rattle.std.proofs.Math.Option.{Option, some}
 use Rattle.laws.specs.Answers.{malformed_record, wrong_sum, past_the_end, no_end}
 use Rattle.tape_records.specs.declared.Parts.{Parts}
-use Rattle.tape_records.specs.declared.Found.TheVariants.{Record, Malformed}
 use Rattle.tape_records.specs.Records.{record_of, count, address, sum, last}
 use Rattle.tape_records.specs.Inner.Reading.{found, parts_of}
 use Rattle.tape_records.specs.Contents.{Stretch, Item, stretch, finish, bad}
 use Rattle.tape_records.specs.Lemmas.Whole.{never, record_length}
-use Rattle.tape_records.specs.declared.Item.{Item as Told}
-use Rattle.tape_records.specs.declared.Item.TheVariants.{Bad}
+use Rattle.tape_records.specs.Inner.Items.{Told}
+use Rattle.tape_records.specs.Inner.Items.{Bad}
 use Rattle.tape_records.specs.Lemmas.Items.{none_found, one_found, told_cond}
 use Rattle.tape_records.specs.Inner.Items.{told}
 use Rattle.tape_paper.specs.Tapes.{judge, tape_item}
@@ -32,11 +31,11 @@ by_bytes before bs h =
     ))
 
 module _ (before : ℕ) (s : List ℕ) where
-  pub item_malformed : Malformed ≡ found (record_of 59 s) → told (tape_item before s) ≡ Bad malformed_record
+  pub item_malformed : None ≡ found (record_of 59 s) → told (tape_item before s) ≡ Bad malformed_record
   unfolding tape_item
   item_malformed e = ap (λ (o : Option (List ℕ)). told (judge before o)) (none_found (record_of 59 s) e)
 
-  pub item_by_parts : (p : Parts) → Record p ≡ found (record_of 59 s) → told (tape_item before s) ≡ told_by before p
+  pub item_by_parts : (p : Parts) → Some p ≡ found (record_of 59 s) → told (tape_item before s) ≡ told_by before p
   unfolding tape_item
   item_by_parts p e =
       let its = one_found (record_of 59 s) p e in

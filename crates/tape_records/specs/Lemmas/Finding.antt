@@ -1,12 +1,11 @@
 -- What read_record finds, from the numbers that it reads.
-use Rattle.std.specs.Prelude.{◌≡◌, ℕ, suc, ◌+◌, ◌*◌, ◌<◌, ◌≤◌, Bool, true, false, cond, List, [], ◌∷◌, length, take, drop, ◌==◌, ◌≢◌, slice_index_or, refl}
+use Rattle.std.specs.Prelude.{◌≡◌, ℕ, suc, ◌+◌, ◌*◌, ◌<◌, ◌≤◌, Bool, true, false, cond, List, [], ◌∷◌, length, take, drop, ◌==◌, ◌≢◌, slice_index_or, refl, Some, None}
 use Rattle.std.proofs.Common.{ap, sym, ◌∙◌, zero-add, arith, lt-ltb, get_or-take, drop-drop}
 use Rattle.std.proofs.Math.Option.{Option, none, some}
 use Rattle.text_reading.specs.Numbers.{nowhere, byte_at, word_at, mark_at}
 use Rattle.text_reading.specs.declared.Byte.{Byte}
 use Rattle.text_reading.specs.declared.Word.{Word}
 use Rattle.tape_records.specs.declared.Sum.{Sum}
-use Rattle.tape_records.specs.declared.Found.TheVariants.{Record, Malformed}
 use Rattle.tape_records.specs.Records.{byte_of, bytes_of, counted, record_of, word, total}
 use Rattle.tape_records.specs.Inner.Reading.{summed, parts_of, found}
 use Rattle.tape_records.specs.Lemmas.Places.{past_byte, some_byte, no_byte, byte_at_lem, WordAt, word_at_lem, past_word, joined, bytes_split, bytes_length, next_byte, bytes_from_lem, bytes_to}
@@ -83,7 +82,7 @@ module _ (s : List ℕ) (fits : length s ≤ nowhere) (n : ℕ) (small : n < 256
 
   -- the parts of a record with the bytes bs
   parts_by : (bs : List ℕ) → bytes_of (n + 5) (drop 1 s) ≡ some bs → byte_of (drop 1 s) ≡ some n
-      → parts_of bs ≡ record { count = n; address = (word_at s 3).value; sum = (summed 0 1 body).value; last = (word_at s (summed 0 1 body).next).value }
+      → parts_of bs ≡ record { head = record { address = (word_at s 3).value; count = n }; sum = (summed 0 1 body).value; last = (word_at s (summed 0 1 body).next).value }
   parts_by bs e f =
       let five : n + 3 + 2 ≡ n + 5 = omega arith in
       let first : 1 + (n + 4) ≡ n + 5 = omega arith in
@@ -104,13 +103,13 @@ module _ (s : List ℕ) (fits : length s ≤ nowhere) (n : ℕ) (small : n < 256
 
   there : (o : Option (List ℕ)) → bytes_of (n + 5) (drop 1 s) ≡ o → byte_of (drop 1 s) ≡ some n → ((word_at s (summed 0 1 body).next).next ≢ nowhere)
       → found o
-      ≡ Record (record { count = n; address = (word_at s 3).value; sum = (summed 0 1 body).value; last = (word_at s (summed 0 1 body).next).value })
+      ≡ Some (record { head = record { address = (word_at s 3).value; count = n }; sum = (summed 0 1 body).value; last = (word_at s (summed 0 1 body).next).value })
   there none e f h = absurd (there_by body tail refl refl h (sym whole ∙ e))
-  there (some bs) e f h = ap Record (parts_by bs e f)
+  there (some bs) e f h = ap Some (parts_by bs e f)
 
 -- For each way out of the code, what it found.
 module _ (mark : ℕ) (s : List ℕ) (fits : length s ≤ nowhere) {number : Byte} (counts : number ≡ byte_at s (mark_at mark s 0)) where
-  pub no_count : number.next ≡ nowhere → found (record_of mark s) ≡ Malformed
+  pub no_count : number.next ≡ nowhere → found (record_of mark s) ≡ None
   no_count h = rw (none_counted mark s fits (rw counts at h))
 
   module _
@@ -124,11 +123,15 @@ module _ (mark : ℕ) (s : List ℕ) (fits : length s ≤ nowhere) {number : Byt
       with_number : (record_of mark s ≡ bytes_of (number.value + 5) (drop 1 s)) × (byte_of (drop 1 s) ≡ some number.value)
       with_number = rw counts (with_count mark s fits (λ z. there-is (rw counts z)))
 
-      pub cut_short : last.next ≡ nowhere → found (record_of mark s) ≡ Malformed
+      pub cut_short : last.next ≡ nowhere → found (record_of mark s) ≡ None
       cut_short h = rw (with_number.0, missing s fits number.value small (rw (lasts, sums) at h))
 
       pub whole_record : {place : Word} → place ≡ word_at s 3 → (last.next ≢ nowhere)
-          → found (record_of mark s) ≡ Record (record { count = number.value; address = place.value; sum = sum.value; last = last.value })
+          → found (record_of mark s) ≡ Some (record { head = record { address = place.value; count = number.value }; sum = sum.value; last = last.value })
       whole_record places h =
           rw (with_number.0, places, lasts, sums)
           (there s fits number.value small (bytes_of (number.value + 5) (drop 1 s)) refl with_number.1 (λ z. h (rw (lasts, sums) z)))
+
+  pub no_sum : number.value < 256 → (number.next ≡ nowhere → ⊥)
+      → record { value = 0; next = nowhere } ≡ summed 0 1 (bytes_of (number.value + 3) (drop 1 s)) → found (record_of mark s) ≡ None
+  no_sum small there-is e = cut_short small there-is e {last = word_at s nowhere} refl (past_word s fits)

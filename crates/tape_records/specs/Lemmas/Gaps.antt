@@ -1,24 +1,21 @@
 -- Laws of Gaps.antt.
 use Rattle.std.specs.Prelude.{◌≡◌, ℕ, suc, ◌+◌, ◌-◌, ◌<◌, ◌≤◌, Bool, true, false, cond, List, [], ◌∷◌, length, drop, slice_index, refl}
-use Rattle.std.proofs.Common.{add-zero, add-one, arith, drop_of_length-le, drop-cons}
+use Rattle.std.specs.List.{prefix_len}
+use Rattle.std.proofs.Common.{arith}
 use Rattle.laws.specs.Answers.{not_refused, malformed_record}
 use Rattle.tape_records.specs.Records.{separator, only_separators}
 use Rattle.tape_records.specs.Contents.{Item, stop, ended, contents}
 use Rattle.tape_records.specs.Lemmas.Whole.{never}
 use Rattle.tape_records.specs.Inner.Gaps.{gap_length, gap_end}
 
-module _ (s : List ℕ) (i : ℕ) where
-  pub gap_none : length s ≤ i → gap_end s i ≡ i
-  gap_none h = rw (drop_of_length-le s h, add-zero i)
-
-  module _ (h : i < length s) where
-    pub gap_more : separator (slice_index s i) ≡ true → gap_end s i ≡ gap_end s (i + 1)
-    gap_more e =
-        let next : i + suc (gap_length (drop (suc i) s)) ≡ suc i + gap_length (drop (suc i) s) = omega arith in
-        rw (add-one i, drop-cons s i 0 h, e) next
-
-    pub gap_over : separator (slice_index s i) ≡ false → gap_end s i ≡ i
-    gap_over e = rw (drop-cons s i 0 h, e, add-zero i)
+-- How many separators a text begins with, in the library's word.
+pub gap_prefix : (l : List ℕ) → prefix_len separator l ≡ gap_length l
+gap_prefix [] = refl
+gap_prefix (c ∷ l) = by_case (separator c) (gap_prefix l)
+  where
+    by_case : (b : Bool) → prefix_len separator l ≡ gap_length l → cond b (1 + prefix_len separator l) 0 ≡ cond b (suc (gap_length l)) 0
+    by_case true e = omega arith
+    by_case false e = refl
 
 -- What a text says is what it says from there on, where no separator stands.
 pub past_gap : (item : ℕ → List ℕ → Item) (k : ℕ) (l : List ℕ) → contents item 0 k l ≡ contents item 0 k (drop (gap_length l) l)

@@ -1,20 +1,19 @@
 -- Laws of Items.antt.
-use Rattle.std.specs.Prelude.{◌≡◌, ℕ, Bool, true, false, cond, List, length, refl}
+use Rattle.std.specs.Prelude.{◌≡◌, ℕ, Bool, true, false, cond, List, length, refl, Some, None}
 use Rattle.std.proofs.Math.Option.{Option, none, some}
 use Rattle.tape_records.specs.declared.Parts.{Parts}
-use Rattle.tape_records.specs.declared.Found.TheVariants.{Record, Malformed}
 use Rattle.tape_records.specs.Inner.Reading.{found, parts_of}
 use Rattle.tape_records.specs.Contents.{Stretch, Item, stretch, finish, bad}
 use Rattle.tape_records.specs.Lemmas.Whole.{never}
-use Rattle.tape_records.specs.declared.Item.TheVariants.{Data, End, Bad}
+use Rattle.tape_records.specs.Inner.Items.{Data, End, Bad}
 use Rattle.tape_records.specs.Inner.Items.{told}
 
 -- what was found where a record has to begin
-pub none_found : (o : Option (List ℕ)) → Malformed ≡ found o → o ≡ none
+pub none_found : (o : Option (List ℕ)) → None ≡ found o → o ≡ none
 none_found none e = refl
 none_found (some bs) e = never (cc)
 
-pub one_found : (o : Option (List ℕ)) (p : Parts) → Record p ≡ found o → (bs : List ℕ) × (o ≡ some bs) × (p ≡ parts_of bs)
+pub one_found : (o : Option (List ℕ)) (p : Parts) → Some p ≡ found o → (bs : List ℕ) × (o ≡ some bs) × (p ≡ parts_of bs)
 one_found none p e = never (cc)
 one_found (some bs) p e = (bs, refl, cc)
 

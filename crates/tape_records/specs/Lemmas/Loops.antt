@@ -1,20 +1,12 @@
 -- One turn of each loop over a text.
-use Rattle.std.specs.Prelude.{◌≡◌, ℕ, zero, suc, ◌+◌, ◌-◌, ◌%◌, ◌<◌, ◌≤◌, List, [], ◌∷◌, ◌++◌, length, drop, ◌≢◌, refl}
-use Rattle.std.proofs.Common.{add-zero, arith}
+use Rattle.std.specs.Prelude.{◌≡◌, ℕ, zero, suc, ◌+◌, ◌-◌, ◌*◌, ◌%◌, ◌<◌, ◌≤◌, List, [], ◌∷◌, ◌++◌, length, drop, ◌≢◌, refl}
+use Rattle.std.proofs.Common.{add-zero, ap, arith}
 use Rattle.text_reading.specs.Numbers.{nowhere, byte_at}
 use Rattle.tape_records.specs.Records.{bytes_of}
 use Rattle.tape_records.specs.Inner.Reading.{summed, values_at}
 use Rattle.tape_records.specs.Lemmas.Places.{bytes_none, bytes_more, summed_more}
 
 module _ (s : List ℕ) (i : ℕ) where
-  pub values_more : (n : ℕ) → 0 < n → values_at n s i ≡ ((byte_at s i).value ∷ []) ++ values_at (n - 1) s (i + 2)
-  values_more zero h = absurd (omega arith)
-  values_more (suc n) h = let one : suc n - 1 ≡ n = omega arith in rw one
-
-  pub values_none : (n : ℕ) → n ≤ 0 → values_at n s i ≡ []
-  values_none zero h = refl
-  values_none (suc n) h = absurd (omega arith)
-
   module _ (fits : length s ≤ nowhere) (v n : ℕ) where
     pub sum_end : n ≤ 0 → v < 65536 → summed v i (bytes_of n (drop i s)) ≡ record { value = v; next = i }
     sum_end h small =
@@ -32,3 +24,8 @@ module _ (s : List ℕ) (i : ℕ) where
       sum_more e =
           let turn = bytes_more s fits i n h e in
           (rw turn.0 (summed_more v i (byte_at s i).value (bytes_of (n - 1) (drop (i + 2) s))), turn.1)
+
+-- one value more of a text's first ones
+pub values_last : (n : ℕ) (s : List ℕ) (i at : ℕ) → at ≡ i + 2 * n → values_at (suc n) s i ≡ values_at n s i ++ (byte_at s at).value ∷ []
+values_last zero s i at e = let here : i ≡ at = omega arith in rw here
+values_last (suc n) s i at e = ap (λ (l : List ℕ). (byte_at s i).value ∷ l) (values_last n s (i + 2) at (omega arith))

@@ -12,8 +12,8 @@ use Rattle.tape_records.specs.Inner.Reading.{found as foundParts, parts_of}
 use Rattle.tape_records.specs.Lemmas.Whole.{never, record_length}
 use Rattle.tape_records.specs.Contents.{Stretch, stretch, finish, bad}
 use Rattle.tape_records.specs.Grammar.{newline}
-use Rattle.tape_records.specs.declared.Item.{Item as Told}
-use Rattle.tape_records.specs.declared.Item.TheVariants.{Data, End, Bad}
+use Rattle.tape_records.specs.Inner.Items.{Told}
+use Rattle.tape_records.specs.Inner.Items.{Data, End, Bad}
 use Rattle.tape_records.specs.Inner.Items.{told}
 use Rattle.tape_records.specs.Lemmas.Items.{told_bad, told_end_lem, told_data_lem}
 use Rattle.tape_paper.specs.Inner.Items.{told_by}

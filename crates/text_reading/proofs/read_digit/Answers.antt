@@ -1,33 +1,16 @@
--- The two tests pick the case of the definition; a digit of the base is below 16.
-use native.Mathlib.Omega.{arith}
-use borrow.Author.Tests.{lt-ltb, le-ltb}
-use Rattle.text_reading.specs.Numbers.{digit_at}
+-- By the character that is there, and its value.
+use Rattle.text_reading.specs.Lemmas.Found.{gone, got, somewhere, no_digit_there, other_there, digit_there}
 use Rattle.text_reading.proofs.read_digit.Goals as goal
 
-pub returns-then-text-at : goal.returns-then-text-at
-unfolding digit_at
-returns-then-text-at c = record { value = rw (le-ltb _ _ c.if-text-at.true); value_bound = omega arith }
+pub returns-in_err-character : goal.returns-in_err-character
+returns-in_err-character c = rw c.from_residual.ensures (no_digit_there _ _ _ (gone _ c.in_err-character.ensures))
 
-pub returns-then-value-base : goal.returns-then-value-base
-unfolding digit_at
-returns-then-value-base c =
-    record {
-      value = rw (
-        lt-ltb _ _ c.if-text-at.false,
-        ← c.digit_value-value.ensures,
-        lt-ltb _ _ c.if-value-base.true,
-      );
-      value_bound = omega arith;
-    }
+pub returns-in_err-value : goal.returns-in_err-value
+returns-in_err-value c =
+    rw c.from_residual-in_err-value.ensures
+    (other_there c.args.text.now c.args.at _ c.requires (rw (got _ c.in_ok-character.ensures) c.in_err-value.ensures))
 
 pub returns : goal.returns
-unfolding digit_at
 returns c =
-    record {
-      value = rw (
-        lt-ltb _ _ c.if-text-at.false,
-        ← c.digit_value-value.ensures,
-        le-ltb _ _ c.if-value-base.false,
-      );
-      value_bound = omega arith;
-    }
+    rw (c.then_some.ensures, ← got _ c.in_ok-character.ensures)
+    (digit_there c.args.text.now c.args.at _ (somewhere _ c.in_ok-character.ensures) (rw (got _ c.in_ok-character.ensures) c.in_ok-value.ensures))

@@ -1,16 +1,10 @@
--- The two tests pick the case of the definition.
-use borrow.Author.Tests.{lt-ltb, le-ltb, eq-eqb, ne_eqb}
-use Rattle.text_reading.specs.Numbers.{mark_at}
+-- By the character that is there.
+use Rattle.text_reading.specs.Lemmas.Found.{gone, got, somewhere, no_mark, mark_there}
 use Rattle.text_reading.proofs.read_mark.Goals as goal
 
-pub returns-then-text-at : goal.returns-then-text-at
-unfolding mark_at
-returns-then-text-at c = rw (le-ltb _ _ c.if-text-at.true)
-
-pub returns-then-text-at-2 : goal.returns-then-text-at-2
-unfolding mark_at
-returns-then-text-at-2 c = rw (lt-ltb _ _ c.if-text-at.false, eq-eqb _ _ c.if-text-at-2.true)
+pub returns-in_err-character : goal.returns-in_err-character
+returns-in_err-character c = rw c.from_residual.ensures (no_mark _ _ _ (gone _ c.in_err-character.ensures))
 
 pub returns : goal.returns
-unfolding mark_at
-returns c = rw (lt-ltb _ _ c.if-text-at.false, ne_eqb _ _ c.if-text-at-2.false)
+returns c =
+    rw (c.then_some.ensures, ← got _ c.in_ok-character.ensures) (mark_there _ _ _ (somewhere _ c.in_ok-character.ensures))

@@ -1,12 +1,13 @@
 -- By whether the text ends there.
-use borrow.Author.Tests.{eq-eqb, ne_eqb}
 use Rattle.text_reading.specs.Numbers.{whole_word}
+use Rattle.text_reading.specs.Lemmas.Found.{gone, got, somewhere, not_whole, whole}
 use Rattle.text_reading.proofs.whole_word.Goals as goal
 
-pub returns-then-word-text : goal.returns-then-word-text
+pub returns-in_err-read_word : goal.returns-in_err-read_word
 unfolding whole_word
-returns-then-word-text c = rw (← c.read_word-word.ensures, eq-eqb _ _ c.if-word-text.true)
+returns-in_err-read_word c = rw c.from_residual.ensures (not_whole _ _ (gone _ c.in_err-read_word.ensures))
 
 pub returns : goal.returns
 unfolding whole_word
-returns c = rw (← c.read_word-word.ensures, ne_eqb _ _ c.if-word-text.false)
+returns c =
+    rw (c.only.ensures, ← got _ c.in_ok-read_word.ensures) (whole _ _ (somewhere _ c.in_ok-read_word.ensures))

@@ -1,24 +1,13 @@
-use Rattle.std.proofs.Common.{◌<◌, refl, sym, ◌∙◌, arith, length}
-use Rattle.std.proofs.lemmas.List.{length-map}
-use Rattle.text_writing.specs.Lemmas.Texts.{nothing, more, whole}
+-- One more character at each turn.
+use Rattle.std.proofs.Common.{arith, ◌∙◌, sym}
+use Rattle.std.proofs.lemmas.List.{get_or-map, length-map}
+use Rattle.text_writing.specs.Lemmas.Writing.{one_more}
 use Rattle.console.specs.Names.{printed, printed_name}
-use Rattle.console.specs.Lemmas.Names.{printed_at}
 use Rattle.console.proofs.names.put_printed.Goals as goal
 
-pub loop-i-init : goal.loop-i-init
-loop-i-init c = (refl, omega arith, nothing (omega arith) (omega arith))
-
-pub loop-i-preserved : goal.loop-i-preserved
-loop-i-preserved c =
+pub loop-byte-preserved : goal.loop-byte-preserved
+loop-byte-preserved c =
     let name = c.args.name.now in
-    let inside : c.loop-i.i < length name = omega arith in
-    let put = rw (c.printed.ensures ∙ sym (printed_at name c.loop-i.i inside)) at c.put_byte-next.ensures in
-    (omega (arith, c.loop-i.invariant.0), omega arith, more (printed_name name) c.loop-i.i (omega (arith, length-map name printed)) c.loop-i.invariant.2 put)
-
-pub shape_of-out : goal.shape_of-out
-shape_of-out c = c.loop-i.invariant.0
-
-pub returns : goal.returns
-returns c =
-    let name = c.args.name.now in
-    whole (printed_name name) c.loop-i.i (omega (arith, length-map name printed)) c.loop-i.invariant.2
+    let i = c.loop-byte.byte-index in
+    let put = rw (c.printed.ensures ∙ sym (get_or-map printed name i 0 0 (omega arith))) at c.put_byte.ensures in
+    one_more (printed_name name) i (omega (arith, length-map name printed)) c.loop-byte.invariant put

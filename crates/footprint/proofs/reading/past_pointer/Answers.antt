@@ -1,8 +1,0 @@
--- The five places.
-use Rattle.std.proofs.Common.{◌∙◌}
-use Rattle.footprint.proofs.reading.past_pointer.Goals as goal
-
-pub returns : goal.returns
-returns c =
-    c.five.ensures
-    ∙ rw (c.full-2.ensures, c.plus.ensures, c.full.ensures, c.operand.ensures)
