@@ -1,11 +1,11 @@
 // The core on numbers. A host in C or Rust calls it by the archive of `mos6502_c`; a step by itself is in `mos6502_step`.
 #![tactic(auto)]
 
-ghost use Rattle.std.specs.Prelude.{◌≡◌, true, ◌<◌, length};
+ghost use Rattle.std.specs.Prelude.{◌≡◌, true, ◌<◌};
 ghost use Rattle.registers.specs.State.{registers_of};
 ghost use Rattle.registers.specs.StatusByte.{bit, pushed_byte, pulled_status};
 ghost use Rattle.mos6502_numbers.specs.Packed.{packed, unpacked, unpacked_nmi};
-ghost use Rattle.manual.specs.Stepping.{full_memory, run_full};
+ghost use Rattle.manual.specs.Stepping.{run_full};
 ghost use Rattle.manual.specs.Micro.{exec, Gives};
 ghost use Rattle.cpu.specs.Inner.Turning.{Calm, Fits, going, turning, settled};
 ghost use Rattle.mos6502_numbers.specs.Machines.{machine_from, lines_from};
@@ -16,6 +16,7 @@ use cpu::{fitting, turn};
 use cpu_cycles::sure_steps;
 use laws::answers::*;
 use manual::{FULL_MEMORY, HIGHEST_BOUND};
+use memory::Memory;
 use mos6502_numbers::{hand_back, lines_from, machine_from, pack, unpack, unpack_nmi};
 use registers::{Registers, Status, flag};
 
@@ -86,9 +87,9 @@ fn advance(
     steps: &mut u64,
     bound: u64,
     lines: u8,
-    memory: &mut [u8],
+    memory: &mut Memory,
 ) -> u8
-    requires { (length memory.old ≡ full_memory) × Calm (lines_from lines) bound × Fits cycles.old bound }
+    requires { Calm (lines_from lines) bound × Fits cycles.old bound }
     ensures gives { Gives
         (turn_on_numbers bound lines registers.old cycles.old)
         memory.old
@@ -121,9 +122,9 @@ fn one_turn(
     steps: &mut u64,
     bound: u64,
     lines: u8,
-    memory: &mut [u8],
+    memory: &mut Memory,
 ) -> u8
-    requires { (length memory.old ≡ full_memory) × (0 < bound) }
+    requires { 0 < bound }
     ensures gives { Gives
         (turn_on_numbers (going (lines_from lines) cycles.old bound) lines registers.old cycles.old)
         memory.old
@@ -151,9 +152,8 @@ fn go_on(
     steps: &mut u64,
     bound: u64,
     lines: u8,
-    memory: &mut [u8],
+    memory: &mut Memory,
 ) -> u8
-    requires { length memory.old ≡ full_memory }
     ensures gives { Gives
         (run_full_on_numbers bound lines registers.old cycles.old)
         memory.old
