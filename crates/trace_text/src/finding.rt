@@ -36,14 +36,17 @@ pub fn put_finding(out: &mut Writer, refusal: Option<Refusal>, number: u64)
     ensures wrote { Writes out.old (finding (answer_in refusal) number) out.new }
     ensures upper_bound { out.new.at ≤ out.old.at + longest_finding }
 {
+    let Some(refusal) = refusal else {
+        put_accepted(out, number);
+        return;
+    };
     match refusal {
-        None => put_accepted(out, number),
-        Some(Refusal::StrayEntry) => put_bad(
+        Refusal::StrayEntry => put_bad(
             out,
             number,
             b" is not the state after a step from the line before\n",
         ),
-        Some(_) => put_bad(out, number, b" is malformed, cut short or missing\n"),
+        _ => put_bad(out, number, b" is malformed, cut short or missing\n"),
     }
 }
 
