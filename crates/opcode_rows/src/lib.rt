@@ -13,6 +13,7 @@ use opcode_numbers::number::*;
 use registers::Registers;
 
 // The opcode's row.
+#[tactic(auto, unfolding(instruction::specs::Opcodes::decoded, instruction::specs::Opcodes::rows, opcode_numbers::specs::Inner::Operations::operation_at, opcode_numbers::specs::Inner::Operations::operations, opcode_numbers::specs::Inner::Operations::mode_at, opcode_numbers::specs::Inner::Operations::modes))]
 fn line(opcode: u8, registers: Registers, memory: &mut Memory) -> Row
     ensures { Gives (dispatched (decoded opcode) registers) memory.old (finished result) memory.new }
 {
