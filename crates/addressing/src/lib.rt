@@ -1,17 +1,16 @@
 // The thirteen addressing modes, after fetch_next_and_decode of cpu.rs.
 #![tactic(auto)]
 
-ghost use Rattle.std.specs.Prelude.{◌≡◌, ◌+◌, [], ◌∷◌, length, slice_index};
+ghost use Rattle.std.specs.Prelude.{◌≡◌, ◌+◌, [], ◌∷◌, slice_index};
 ghost use Rattle.manual.specs.Micro.{Gives};
 ghost use Rattle.manual.specs.Words.{low_byte, joined};
 ghost use Rattle.manual.specs.Addressing.{operand, plain, indexed, silent, target};
 ghost use Rattle.manual.specs.Instructions.{advanced};
-ghost use Rattle.manual.specs.Stepping.{full_memory};
 
 use arithmetic::branch_target;
 use instruction::AddressingMode;
 use manual::Target;
-use memory::{Address, ZeroPage, address_from_bytes, get_byte, join, read_address};
+use memory::{Address, Memory, ZeroPage, address_from_bytes, get_byte, join, read_address};
 use registers::Registers;
 
 // The place so many bytes after the opcode.
@@ -29,34 +28,27 @@ pub fn advanced(mode: AddressingMode, registers: Registers) -> Registers
 }
 
 // The byte after the opcode.
-fn operand_byte(registers: Registers, memory: &[u8]) -> u8
-    requires { length memory.now ≡ full_memory }
+fn operand_byte(registers: Registers, memory: &Memory) -> u8
     ensures { result ≡ slice_index memory.now (operand registers 1) }
 {
     get_byte(memory, operand_at(registers, 1))
 }
 
 // The address that the two operand bytes name, the low one first.
-fn operand_address(registers: Registers, memory: &[u8]) -> Address
-    requires { length memory.now ≡ full_memory }
+fn operand_address(registers: Registers, memory: &Memory) -> Address
     ensures { result.0 ≡ joined (slice_index memory.now (operand registers 2)) (slice_index memory.now (operand registers 1)) }
 {
     address_from_bytes(read_address(memory, operand_at(registers, 1), operand_at(registers, 2)))
 }
 
 // A pointer's two bytes, the low one first: both lie in one page, the zero page or the one that JMP names.
-fn read_pointer(memory: &[u8], high: u8, byte: u8) -> [u8; 2]
-    requires { length memory.now ≡ full_memory }
+fn read_pointer(memory: &Memory, high: u8, byte: u8) -> [u8; 2]
     ensures { result
         ≡ slice_index memory.now (joined high byte)
         ∷ slice_index memory.now (joined high (low_byte (byte + 1)))
         ∷ [] }
 {
-    read_address(
-        memory,
-        join(high, byte),
-        join(high, std::num::wrapping_add_u8(byte, 1)),
-    )
+    read_address(memory, join(high, byte), join(high, byte.wrapping_add(1)))
 }
 
 // An address that is not counted from another is on the bus at once.
@@ -88,19 +80,18 @@ fn silent(at: Address, crossed: bool) -> Target
 {
     Target {
         address: at.0,
-        crossed: crossed,
+        crossed,
         first: 0,
     }
 }
 
 // Where a mode leads. The accumulator and implied modes lead nowhere: 0000, and no instruction asks.
-pub fn target_of(mode: AddressingMode, registers: Registers, memory: &[u8]) -> Target
-    requires { length memory.now ≡ full_memory }
+#[tactic(auto, unfolding(manual::specs::Addressing::target))]
+pub fn target_of(mode: AddressingMode, registers: Registers, memory: &Memory) -> Target
     ensures { Gives (target mode registers) memory.now result memory.now }
 {
     match mode {
-        AddressingMode::Accumulator => silent(Address(0), false),
-        AddressingMode::Implied => silent(Address(0), false),
+        AddressingMode::Accumulator | AddressingMode::Implied => silent(Address(0), false),
         AddressingMode::Immediate => silent(operand_at(registers, 1), false),
         AddressingMode::ZeroPage => plain(ZeroPage(operand_byte(registers, memory)).full()),
         AddressingMode::ZeroPageX => plain(

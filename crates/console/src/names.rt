@@ -29,7 +29,8 @@ pub fn put_printed(out: &mut Writer, name: &[u8])
 
 // Puts an argument so.
 pub fn put_name(rt: HostRuntime, out: &mut Writer, index: usize)
-    ensures { WritesName out.old out.new }
+    ensures writes_name { WritesName out.old out.new }
+    ensures upper_bound { out.new.at ≤ out.old.at + 4096 }
 {
     let mut word = [0u8; LONGEST_WORD];
     put_printed(out, argument(rt, index, &mut word));

@@ -7,14 +7,15 @@ ghost use Rattle.text_writing.specs.Counts.{IsPrefixLen};
 ghost use Rattle.statuses.specs.Statuses.{first_of};
 ghost use Rattle.console.specs.Failing.{FailureStays};
 
-use console::{Console, Names, is_standard_input, path_of, put_argument, put_name, say_why};
-use names::{folder_end, put_beside, put_target};
+use console::{Console, Names, argument, is_standard_input, path_of, put_name, say_why};
+use names::{folder_of, put_beside, put_target};
 use statuses::{FAILED, first_of};
 use std::fs;
 use std::fs::{File, OpenOptions, Permissions};
 use std::io::{Error, ErrorKind, Write};
 use std::os::unix::fs::PermissionsExt;
 use system::{Known, known_file};
+use text_writing::Writer;
 
 mod names; // names.rt: the file that a name leads to, and one beside it
 mod system; // system.rt: what the system tells of a file
@@ -22,58 +23,42 @@ mod system; // system.rt: what the system tells of a file
 // Room for a name that the system takes.
 const LONGEST_NAME: usize = 4096;
 
-// Puts a name as it was typed, for sentences.
-fn put_shown(rt: HostRuntime, out: &mut [u8], index: usize) -> usize
-    ensures { IsPrefixLen result out.new }
-{
-    let size = put_name(rt, out, 0, index);
-    if out.len() < size {
-        return 0;
-    }
-    size
-}
-
-// Says why a call of the system failed, and notes it.
-fn fail(console: &mut Console, shown: &[u8], error: Error)
+// Says why a call of the system failed, of the file that an argument names, and notes it.
+fn fail(console: &mut Console, index: usize, error: Error)
     ensures { FailureStays console.old.failed console.new.failed }
 {
-    say_why(console.rt, shown, error);
+    let mut room = [0u8; LONGEST_NAME];
+    let mut shown = Writer::new(&mut room);
+    put_name(console.rt, &mut shown, index);
+    let size = shown.place();
+    say_why(console.rt, &room[..size], error);
     console.note_failure(FAILED);
 }
 
 // The input that an argument names, which is standard input if that is `-` or missing.
-fn known_input(rt: HostRuntime, index: usize) -> Known {
+fn known_input(rt: HostRuntime, index: usize) -> Option<Known> {
     if is_standard_input(rt, index) {
         return known_file(rt, b"/dev/stdin");
     }
-    let mut name = [0u8; LONGEST_NAME];
-    let length = put_argument(rt, &mut name, index);
-    known_file(rt, &name[..length])
+    let mut word = [0u8; LONGEST_NAME];
+    known_file(rt, argument(rt, index, &mut word))
 }
 
 // Whether the file that an argument names is the input that another one names, by whatever name or link.
 pub fn is_same_file(rt: HostRuntime, after: usize, input: usize) -> bool {
-    let mut name = [0u8; LONGEST_NAME];
-    let length = put_argument(rt, &mut name, after);
-    let known = known_file(rt, &name[..length]);
-    known.is(known_input(rt, input))
+    let mut word = [0u8; LONGEST_NAME];
+    known_file(rt, argument(rt, after, &mut word)).is_some_and(|known| known.is(known_input(
+        rt, input,
+    )))
 }
 
 // To replace a device, a pipe or a folder would be to lose it; and so a file to which this program's own lines go.
-fn test_kind(console: &mut Console, index: usize, name: &[u8])
-    ensures { FailureStays console.old.failed console.new.failed }
-{
-    let known = known_file(console.rt, name);
-    let own = known.is(known_file(console.rt, b"/dev/stdout"))
-        || known.is(known_file(console.rt, b"/dev/stderr"));
-    if known.mode == 0 || known.is_regular() && !own {
-        return;
-    }
-    console.note_failure(FAILED);
-    console.say_of(
-        index,
-        b"this is a folder, a device, a pipe or where the program's lines go, and no file to replace\n",
-    );
+fn is_replaceable(rt: HostRuntime, name: &[u8]) -> bool {
+    known_file(rt, name).is_none_or(|known| {
+        known.is_regular()
+            && !known.is(known_file(rt, b"/dev/stdout"))
+            && !known.is(known_file(rt, b"/dev/stderr"))
+    })
 }
 
 // Opens a file that is there for reading and writing, and leaves its bytes as they are.
@@ -85,13 +70,13 @@ fn open_update(rt: HostRuntime, name: &[u8]) -> std::io::Result<File> {
 }
 
 // A name has to end in the name of a file. What is there may be written, or nothing is there.
-fn test_open(console: &mut Console, name: &[u8], shown: &[u8])
-    ensures { FailureStays console.old.failed console.new.failed }
-{
-    match open_update(console.rt, name) {
-        Ok(_) => {}
-        Err(error) if error.kind() == ErrorKind::NotFound && folder_end(name) < name.len() => {}
-        Err(error) => fail(console, shown, error),
+fn test_open(rt: HostRuntime, name: &[u8]) -> std::io::Result<()> {
+    match open_update(rt, name) {
+        Ok(_) => Ok(()),
+        Err(error) if error.kind() == ErrorKind::NotFound && folder_of(name).len() < name.len() => {
+            Ok(())
+        }
+        Err(error) => Err(error),
     }
 }
 
@@ -111,71 +96,62 @@ fn remove(rt: HostRuntime, name: &[u8]) {
 }
 
 // A file can be made in the folder.
-fn test_folder(console: &mut Console, folder: &[u8], shown: &[u8])
-    ensures { FailureStays console.old.failed console.new.failed }
-{
-    let mut part = [0u8; LONGEST_NAME];
-    let size = put_beside(console.rt, &mut part, folder);
-    match create(console.rt, &part[..size]) {
-        Ok(_) => remove(console.rt, &part[..size]),
-        Err(error) => fail(console, shown, error),
-    }
+fn test_folder(rt: HostRuntime, folder: &[u8]) -> std::io::Result<()> {
+    let mut room = [0u8; LONGEST_NAME];
+    let part = put_beside(rt, folder, &mut room);
+    create(rt, part)?;
+    remove(rt, part);
+    Ok(())
 }
 
 fn open_folder(rt: HostRuntime, folder: &[u8]) -> std::io::Result<File> {
-    if folder.len() == 0 {
+    if folder.is_empty() {
         return File::open(&rt, ".");
     }
     File::open(&rt, path_of(folder)?)
 }
 
-// Syncs a folder. Not every file system can, and one that cannot says EINVAL.
-fn sync(rt: HostRuntime, folder: &[u8]) -> std::io::Result<()> {
+// Syncs a folder, so that a name in it reaches the disk. Not every file system can, and one that cannot says EINVAL.
+fn sync_folder(rt: HostRuntime, folder: &[u8]) -> std::io::Result<()> {
     match open_folder(rt, folder)?.sync_all() {
         Err(error) if error.kind() == ErrorKind::InvalidInput => Ok(()),
         synced => synced,
     }
 }
 
-// Syncs a folder, so that a name in it reaches the disk.
-fn sync_folder(console: &mut Console, folder: &[u8], shown: &[u8])
-    ensures { FailureStays console.old.failed console.new.failed }
-{
-    if let Err(error) = sync(console.rt, folder) {
-        fail(console, shown, error);
-    }
+// A file of that name can be written, as far as its folder and what is there go.
+fn test_file(rt: HostRuntime, name: &[u8]) -> std::io::Result<()> {
+    test_open(rt, name)?;
+    let folder = folder_of(name);
+    test_folder(rt, folder)?;
+    sync_folder(rt, folder)
 }
 
 // Tests whether the file that an argument names could be written, and says why not. So a long run does not begin in vain.
 pub fn can_replace(console: &mut Console, index: usize)
     ensures { FailureStays console.old.failed console.new.failed }
 {
-    let mut shown = [0u8; LONGEST_NAME];
-    let size = put_shown(console.rt, &mut shown, index);
-    let mut name = [0u8; LONGEST_NAME];
-    let length = put_target(console.rt, &mut name, index);
-    test_kind(console, index, &name[..length]);
-    if console.failed != 0 {
+    let mut room = [0u8; LONGEST_NAME];
+    let name = put_target(console.rt, index, &mut room);
+    if !is_replaceable(console.rt, name) {
+        console.note_failure(FAILED);
+        console.say_of(
+            index,
+            b"this is a folder, a device, a pipe or where the program's lines go, and no file to replace\n",
+        );
         return;
     }
-    test_open(console, &name[..length], &shown[..size]);
-    if console.failed != 0 {
-        return;
+    if let Err(error) = test_file(console.rt, name) {
+        fail(console, index, error);
     }
-    let end = folder_end(&name[..length]);
-    test_folder(console, &name[..end], &shown[..size]);
-    if console.failed != 0 {
-        return;
-    }
-    sync_folder(console, &name[..end], &shown[..size]);
 }
 
 // Writes to a new file, gives it the mode of the one that it replaces, and sees to it that all of it reaches the disk. What is
 // synced cannot be lost when the file is closed.
-fn fill(mut file: File, mode: u32, bytes: &[u8]) -> std::io::Result<()> {
+fn fill(mut file: File, replaced: Option<Known>, bytes: &[u8]) -> std::io::Result<()> {
     file.write_all(bytes)?;
-    if mode != 0 {
-        file.set_permissions(Permissions::from_mode(mode % 4096))?;
+    if let Some(known) = replaced {
+        file.set_permissions(Permissions::from_mode(known.mode % 4096))?;
     }
     file.sync_all()
 }
@@ -184,29 +160,30 @@ fn fill(mut file: File, mode: u32, bytes: &[u8]) -> std::io::Result<()> {
 fn fill_and_rename(
     rt: HostRuntime,
     file: File,
-    mode: u32,
     part: &[u8],
     name: &[u8],
     bytes: &[u8],
 ) -> std::io::Result<()> {
-    fill(file, mode, bytes)?;
+    fill(file, known_file(rt, name), bytes)?;
     fs::rename(&rt, path_of(part)?, path_of(name)?)
 }
 
 // The new file takes the name, or it is removed.
-fn replace_by(console: &mut Console, part: &[u8], name: &[u8], shown: &[u8], bytes: &[u8])
-    ensures { FailureStays console.old.failed console.new.failed }
-{
-    let known = known_file(console.rt, name);
-    match create(console.rt, part) {
-        Ok(file) => {
-            if let Err(error) = fill_and_rename(console.rt, file, known.mode, part, name, bytes) {
-                fail(console, shown, error);
-                remove(console.rt, part);
-            }
-        }
-        Err(error) => fail(console, shown, error),
+fn replace_by(rt: HostRuntime, part: &[u8], name: &[u8], bytes: &[u8]) -> std::io::Result<()> {
+    let file = create(rt, part)?;
+    let replaced = fill_and_rename(rt, file, part, name, bytes);
+    if replaced.is_err() {
+        remove(rt, part);
     }
+    replaced
+}
+
+// Writes a file of that name, or leaves what is there.
+fn write_file(rt: HostRuntime, name: &[u8], bytes: &[u8]) -> std::io::Result<()> {
+    let folder = folder_of(name);
+    let mut room = [0u8; LONGEST_NAME];
+    replace_by(rt, put_beside(rt, folder, &mut room), name, bytes)?;
+    sync_folder(rt, folder)
 }
 
 // Reads an image into two buffers, and tests AFTER before anything is run.
@@ -223,36 +200,10 @@ pub fn read_and_test(
     ensures failure_stays { FailureStays console.old.failed console.new.failed }
 {
     let size = console.read_two(names.image, input, copy);
-    if console.failed != 0 {
-        return size;
+    if console.failed == 0 {
+        can_replace(console, names.after);
     }
-    can_replace(console, names.after);
     size
-}
-
-// Writes the file that an argument names, or leaves what is there and says why. Nothing may have failed before.
-fn put_file(console: &mut Console, index: usize, bytes: &[u8])
-    requires { console.old.failed ≡ 0 }
-    ensures { FailureStays console.old.failed console.new.failed }
-{
-    let mut shown = [0u8; LONGEST_NAME];
-    let size = put_shown(console.rt, &mut shown, index);
-    let mut name = [0u8; LONGEST_NAME];
-    let length = put_target(console.rt, &mut name, index);
-    let end = folder_end(&name[..length]);
-    let mut part = [0u8; LONGEST_NAME];
-    let part_size = put_beside(console.rt, &mut part, &name[..end]);
-    replace_by(
-        console,
-        &part[..part_size],
-        &name[..length],
-        &shown[..size],
-        bytes,
-    );
-    if console.failed != 0 {
-        return;
-    }
-    sync_folder(console, &name[..end], &shown[..size]);
 }
 
 // Says that the file that an argument names is left as it was, and answers the status of the work.
@@ -264,15 +215,18 @@ pub fn not_written(console: &mut Console, index: usize, status: u8) -> u8
     first_of(console.failed, status)
 }
 
-// Writes that file, or says that it is left as it was, and answers the status of the work. That is 0: no other is kept.
+// Writes that file, or says why not and that it is left as it was, and answers the status of the work. That is 0: no other is
+// kept, and nothing may have failed before.
 pub fn replace(console: &mut Console, index: usize, status: u8, bytes: &[u8]) -> u8
     requires status_value { status ≡ 0 }
     requires failed_value { console.old.failed ≡ 0 }
     ensures value { result ≡ first_of console.new.failed status }
     ensures failure_stays { FailureStays console.old.failed console.new.failed }
 {
-    put_file(console, index, bytes);
-    if console.failed != 0 {
+    let mut room = [0u8; LONGEST_NAME];
+    let name = put_target(console.rt, index, &mut room);
+    if let Err(error) = write_file(console.rt, name, bytes) {
+        fail(console, index, error);
         return not_written(console, index, status);
     }
     status

@@ -1,63 +1,41 @@
 // The names of files: the one that a symbolic link leads to, and one beside a file.
-ghost use Rattle.text_writing.specs.Counts.{IsPrefixLen};
+ghost use Rattle.std.specs.Prelude.{◌≤◌, length, IfSome};
 
-use console::{path_of, put_argument};
+use console::{argument, path_of};
 use std::fs;
 use std::random::RandomSource;
-use text_writing::{put_hex2, put_text};
+use text_writing::Writer;
 
 // As many links as the system itself follows.
 const LINKS: u64 = 40;
 
-// Where the folder of a name ends: after its last slash, or at its start.
-pub(crate) fn folder_end(name: &[u8]) -> usize
-    ensures { IsPrefixLen result name.now }
-{
-    let mut end = name.len();
-    while 0 < end {
-        if name[end - 1] == b'/' {
-            break;
-        }
-        end -= 1;
+// The folder of a name: what stands before the name of the file, to the last slash.
+pub(crate) fn folder_of(name: &[u8]) -> &[u8] {
+    match name.iter().rposition(|&character| character == b'/') {
+        Some(slash) => &name[..slash + 1],
+        None => &[],
     }
-    end
 }
 
-// What stands before the text of a link: the folder in which the link lies, unless the text begins with a slash.
+// How much of a name stands before the text of a link: the folder in which the link lies, unless the text begins with a slash.
 fn link_start(name: &[u8], text: &[u8]) -> usize {
-    if text.len() == 0 {
-        return 0;
+    match text {
+        [] | [b'/', ..] => 0,
+        _ => folder_of(name).len(),
     }
-    if text[0] == b'/' {
-        return 0;
-    }
-    folder_end(name)
 }
 
-// How long a name is after a step along a link, and whether there was one. A name that does not fit has no characters.
-#[derive(Clone, Copy)]
-struct Step {
-    linked: bool,
-    length: usize,
-}
-
-// One step along a link, whose text is known, from the name that stands at the start of `name`.
-fn step_to(name: &mut [u8], length: usize, text: &[u8]) -> Step
-    requires { IsPrefixLen length name.old }
-    ensures { IsPrefixLen result.length name.new }
+// One step along a link, whose text is known, from the name that stands at the start of `name`: how long the name is after it.
+// One that does not fit has no characters.
+fn step_to(name: &mut [u8], size: usize, text: &[u8]) -> usize
+    requires { size ≤ length name.old }
+    ensures { result ≤ length name.new }
 {
-    let at = link_start(&name[..length], text);
-    let end = put_text(name, at, text);
-    if name.len() < end {
-        return Step {
-            linked: false,
-            length: 0,
-        };
-    }
-    Step {
-        linked: true,
-        length: end,
-    }
+    let start = link_start(&name[..size], text);
+    let mut out = Writer::from(name, start);
+    out.put_text(text);
+    let end = out.place();
+    if name.len() < end { 0 } else { end }
 }
 
 // The text of a link.
@@ -65,40 +43,30 @@ fn link_text(rt: HostRuntime, name: &[u8]) -> std::io::Result<String> {
     Ok(fs::read_link(&rt, path_of(name)?)?.into_string())
 }
 
-// One step along a link, if the name that stands at the start of `name` is one. The system says of another name that it is
-// none. A link whose text cannot be had, because there is no memory for it or it is no UTF-8, leads to no name.
-fn follow(rt: HostRuntime, name: &mut [u8], length: usize) -> Step
-    requires { IsPrefixLen length name.old }
-    ensures { IsPrefixLen result.length name.new }
+// One step along a link, if the name that stands at the start of `name` is one: how long the name is after it. The system says
+// of another name that it is none. A link whose text cannot be had, because there is no memory for it or it is no UTF-8, leads
+// to no name, which has no characters.
+fn follow(rt: HostRuntime, name: &mut [u8], size: usize) -> Option<usize>
+    requires { size ≤ length name.old }
+    ensures { IfSome result (λ after. after ≤ length name.new) }
 {
-    match link_text(rt, &name[..length]) {
-        Ok(text) => step_to(name, length, text.as_bytes()),
-        Err(error) if error.raw_os_error().is_some() => Step {
-            linked: false,
-            length: length,
-        },
-        Err(_) => Step {
-            linked: false,
-            length: 0,
-        },
+    match link_text(rt, &name[..size]) {
+        Ok(text) => Some(step_to(name, size, text.as_bytes())),
+        Err(error) if error.raw_os_error().is_some() => None,
+        Err(_) => Some(0),
     }
 }
 
-// Puts the name of the file that an argument leads to, and answers its length, 0 if it is missing, empty or too long.
-pub(crate) fn put_target(rt: HostRuntime, name: &mut [u8], index: usize) -> usize
-    ensures { IsPrefixLen result name.new }
-{
-    let mut size = put_argument(rt, name, index);
-    let mut left = LINKS;
-    while 0 < left {
-        let step = follow(rt, name, size);
-        size = step.length;
-        if !step.linked {
+// Puts the name of the file that an argument leads to into a buffer: empty if it is missing, empty or too long.
+pub(crate) fn put_target(rt: HostRuntime, index: usize, name: &mut [u8]) -> &[u8] {
+    let mut size = argument(rt, index, name).len();
+    for _ in 0..LINKS {
+        let Some(after) = follow(rt, name, size) else {
             break;
-        }
-        left -= 1;
+        };
+        size = after;
     }
-    size
+    &name[..size]
 }
 
 // Four bytes that no other process has, or zeros where the system has none to give.
@@ -108,19 +76,14 @@ fn random_bytes(rt: HostRuntime) -> [u8; 4] {
     random
 }
 
-// Puts the name of a file in a folder, which no other process takes, and answers its length, 0 if it does not fit.
-pub(crate) fn put_beside(rt: HostRuntime, out: &mut [u8], folder: &[u8]) -> usize
-    ensures { IsPrefixLen result out.new }
-{
-    let random = random_bytes(rt);
-    let after_folder = put_text(out, 0, folder);
-    let after_word = put_text(out, after_folder, b".part-");
-    let after_first = put_hex2(out, after_word, random[0]);
-    let after_second = put_hex2(out, after_first, random[1]);
-    let after_third = put_hex2(out, after_second, random[2]);
-    let end = put_hex2(out, after_third, random[3]);
-    if out.len() < end {
-        return 0;
+// Puts the name of a file in a folder, which no other process takes, into a buffer: empty if it does not fit.
+pub(crate) fn put_beside<'a>(rt: HostRuntime, folder: &[u8], name: &'a mut [u8]) -> &'a [u8] {
+    let mut out = Writer::new(name);
+    out.put_text(folder);
+    out.put_text(b".part-");
+    for byte in random_bytes(rt) {
+        out.put_hex2(byte);
     }
-    end
+    let end = out.place();
+    name.get(..end).unwrap_or(&[])
 }

@@ -8,11 +8,17 @@ const KIND: u32 = 0o170000;
 
 const REGULAR: u32 = 0o100000;
 
-// Which file it is, and its mode; a mode of 0 if there is none.
-#[derive(Clone, Copy)]
-pub(crate) struct Known {
+// Which file it is, by the numbers that the system gives it.
+#[derive(Clone, Copy, PartialEq, Eq)]
+struct Identity {
     device: u64,
     inode: u64,
+}
+
+// A file that is there, and its mode.
+#[derive(Clone, Copy)]
+pub(crate) struct Known {
+    identity: Identity,
     pub(crate) mode: u32,
 }
 
@@ -22,9 +28,9 @@ impl Known {
         self.mode & KIND == REGULAR
     }
 
-    // Whether two names lead to one file.
-    pub(crate) fn is(self, other: Known) -> bool {
-        self.mode != 0 && self.device == other.device && self.inode == other.inode
+    // Whether it is another file that is there, by whatever name.
+    pub(crate) fn is(self, other: Option<Known>) -> bool {
+        other.is_some_and(|other| self.identity == other.identity)
     }
 }
 
@@ -32,20 +38,15 @@ impl Known {
 fn look(rt: HostRuntime, name: &[u8]) -> std::io::Result<Known> {
     let metadata = fs::metadata(&rt, path_of(name)?)?;
     Ok(Known {
-        device: metadata.dev(),
-        inode: metadata.ino(),
+        identity: Identity {
+            device: metadata.dev(),
+            inode: metadata.ino(),
+        },
         mode: metadata.mode(),
     })
 }
 
 // The file that a name leads to. A name that the system does not take leads to none.
-pub(crate) fn known_file(rt: HostRuntime, name: &[u8]) -> Known {
-    match look(rt, name) {
-        Ok(known) => known,
-        Err(_) => Known {
-            device: 0,
-            inode: 0,
-            mode: 0,
-        },
-    }
+pub(crate) fn known_file(rt: HostRuntime, name: &[u8]) -> Option<Known> {
+    look(rt, name).ok()
 }

@@ -10,6 +10,7 @@ use console::{Console, show_progress};
 use image_run::start_image;
 use manual::{Ended, FULL_MEMORY, Machine};
 use std::io::IsTerminal;
+use text_writing::Writer;
 use trace_line::{LONGEST_LINE, put_line};
 use trace_steps::put_steps;
 use trace_text::View;
@@ -18,12 +19,8 @@ use trace_text::View;
 // `lunch` and `in_parts`).
 const PART: u64 = 1000;
 
-// The lines of a part.
-fn text_buffer() -> [u8; 52000]
-    ensures { 52000 ≡ length result }
-{
-    [0; 52000]
-}
+// Room for the lines of a part.
+const LONGEST_PART: usize = 52000;
 
 // A part of a run, with its lines.
 fn show_part(
@@ -37,50 +34,44 @@ fn show_part(
     ensures gives { Gives (long_run (length image.old) bound idle machine) image.old result image.new }
     ensures failure_stays { FailureStays console.old.failed console.new.failed }
 {
-    let mut text = text_buffer();
-    let shown = put_steps(&mut text, view, machine, bound, image);
-    let ended = shown.ended;
-    let size = shown.size;
+    let mut text = [0u8; LONGEST_PART];
+    let mut out = Writer::new(&mut text);
+    let ended = put_steps(&mut out, view, machine, bound, image);
+    let size = out.place();
     console.write_output(&text[..size]);
     ended
 }
 
-// The line of the state that a run starts with. An image of another length has none.
-fn write_start(console: &mut Console, machine: Machine, length: usize)
+// The line of the state that a run starts with, before the lines of the states after its steps. An image of another length has
+// none.
+fn write_start(console: &mut Console, view: View, machine: Machine, length: usize)
     ensures { FailureStays console.old.failed console.new.failed }
 {
-    if length != FULL_MEMORY {
-        return;
-    }
-    let mut text = [0u8; LONGEST_LINE];
-    let size = put_line(&mut text, 0, machine);
-    console.write_output(&text[..size]);
-}
-
-// What stands before the lines of the steps.
-fn write_head(console: &mut Console, view: View, machine: Machine, length: usize)
-    ensures { FailureStays console.old.failed console.new.failed }
-{
-    match view {
-        View::States => write_start(console, machine, length),
-        View::Steps => {}
+    if matches!(view, View::States) && length == FULL_MEMORY {
+        let mut text = [0u8; LONGEST_LINE];
+        let mut out = Writer::new(&mut text);
+        put_line(&mut out, machine);
+        let size = out.place();
+        console.write_output(&text[..size]);
     }
 }
 
 // How far a trace is, if its lines do not go to the terminal themselves.
 fn tell_progress(rt: HostRuntime, view: View, made: u64) {
-    match view {
-        View::States => {
-            if !rt.stdout().is_terminal() {
-                show_progress(rt, b"trace", made, b"steps");
-            }
-        }
-        View::Steps => {}
+    if matches!(view, View::States) && !rt.stdout().is_terminal() {
+        show_progress(rt, b"trace", made, b"steps");
     }
 }
 
-// A run of at most `count` steps, part by part. It is broken off if its lines cannot be written.
-fn show_on(console: &mut Console, view: View, start: Machine, count: u64, image: &mut [u8]) -> Ended
+// A run of at most `count` steps, part by part. It is broken off if its lines cannot be written: the loop of the program go has
+// no lines and promises its run in any case, and one loop over both would give that up.
+fn show_on(
+    console: &mut Console,
+    view: View,
+    start: Machine,
+    count: u64,
+    image: &mut [u8],
+) -> Ended
     ensures gives { console.new.failed ≡ 0 → Gives (long_run (length image.old) count idle start) image.old result image.new }
     ensures failure_stays { FailureStays console.old.failed console.new.failed }
 {
@@ -91,17 +82,21 @@ fn show_on(console: &mut Console, view: View, start: Machine, count: u64, image:
         if console.failed != 0 {
             return ended;
         }
-        let reason = ended.reason;
-        if !reason.is_made() {
-            return Ended::new(reason, made + ended.steps, ended.machine);
+        if !ended.reason.is_made() {
+            return Ended {
+                steps: made + ended.steps,
+                ..ended
+            };
         }
         machine = ended.machine;
         made += PART;
         tell_progress(console.rt, view, made);
     }
     let last = show_part(console, view, machine, count - made, image);
-    let reason = last.reason;
-    Ended::new(reason, made + last.steps, last.machine)
+    Ended {
+        steps: made + last.steps,
+        ..last
+    }
 }
 
 // The run of an image, with its lines.
@@ -110,6 +105,6 @@ pub(crate) fn show_run(console: &mut Console, view: View, count: u64, image: &mu
     ensures failure_stays { FailureStays console.old.failed console.new.failed }
 {
     let machine = start_image(image);
-    write_head(console, view, machine, image.len());
+    write_start(console, view, machine, image.len());
     show_on(console, view, machine, count, image)
 }

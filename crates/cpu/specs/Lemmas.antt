@@ -1,3 +1,4 @@
 pub mod Clock
 pub mod Travelling
 pub mod Turning
+pub mod Walking

@@ -4,7 +4,7 @@
 ghost use Rattle.std.specs.Prelude.{◌≡◌, ◌+◌, ◌-◌, ◌*◌, ◌<◌, ◌≤◌, length, if◌then◌else◌, nat_lt};
 ghost use Rattle.manual.specs.Micro.{Gives};
 ghost use Rattle.manual.specs.Outcomes.{machine_of, ended};
-ghost use Rattle.manual.specs.Stepping.{full_memory, highest_count, highest_bound, step, run_full, run, long_run};
+ghost use Rattle.manual.specs.Stepping.{highest_count, highest_bound, step, run_full, run, long_run};
 ghost use Rattle.cpu.specs.Inner.Travelling.{travelled, travelling};
 ghost use Rattle.cpu.specs.Inner.Turning.{raised, serving, Calm, reach, Fits, fitting, turning};
 
@@ -12,12 +12,11 @@ use manual::{
     Ended, FULL_MEMORY, HIGHEST_BOUND, HIGHEST_COUNT, Lines, Machine, Reason, SERVING_CYCLES,
     Stepped,
 };
-use memory::{Address, get_byte};
-use opcode_effects::{STEP};
+use memory::{Address, Memory, get_byte};
+use opcode_effects::STEP;
 use opcode_rows::dispatch;
 use registers::Registers;
 use stack::serve;
-use std::num::{wrapping_add_u64, wrapping_sub_u64};
 
 // What a turn leaves: the answer of its steps, and the first address of the last of them.
 #[derive(Clone, Copy)]
@@ -33,14 +32,20 @@ impl Travelled {
     {
         Travelled {
             ended: Ended::new(reason, steps, machine),
-            first: first,
+            first,
         }
     }
 }
 
 // A line is served, which is one step: the last level of NMI becomes `nmi`.
-fn serve_line(vector: u16, start: Registers, count: u64, nmi: bool, memory: &mut [u8]) -> Travelled
-    requires { (length memory.old ≡ full_memory) × (vector + 1 < 65536) × (count ≤ highest_count) }
+fn serve_line(
+    vector: u16,
+    start: Registers,
+    count: u64,
+    nmi: bool,
+    memory: &mut Memory,
+) -> Travelled
+    requires { (vector + 1 < 65536) × (count ≤ highest_count) }
     ensures { Gives (serving vector start count nmi) memory.old result memory.new }
 {
     let registers = serve(vector, start, memory);
@@ -52,8 +57,8 @@ fn serve_line(vector: u16, start: Registers, count: u64, nmi: bool, memory: &mut
 // step does into this loop and keeps the registers in the host's: docs/RATE.md says what that takes. So no line and no room is
 // looked at in it, and one number counts the steps down and the cycles up: `clock` has the steps that follow the next one times
 // STEP, and the cycles that were made.
-fn walk(start: Registers, count: u64, nmi: bool, bound: u64, memory: &mut [u8]) -> Travelled
-    requires { (length memory.old ≡ full_memory) × (0 < bound) × (bound ≤ 16777216) × (count + 7 * (bound - 1) ≤ highest_count) }
+fn walk(start: Registers, count: u64, nmi: bool, bound: u64, memory: &mut Memory) -> Travelled
+    requires { (0 < bound) × (bound ≤ 16777216) × (count + 7 * (bound - 1) ≤ highest_count) }
     ensures { Gives (travelling bound 0 0 (raised nmi) (machine_of start count nmi)) memory.old result memory.new }
 {
     let mut registers = start.kept_apart();
@@ -62,11 +67,10 @@ fn walk(start: Registers, count: u64, nmi: bool, bound: u64, memory: &mut [u8]) 
         let opcode = get_byte(memory, Address(registers.counter));
         match dispatch(opcode, registers, memory) {
             Some(performed) => {
-                let after = performed.registers;
-                registers = after.kept_apart();
-                let next = wrapping_sub_u64(clock, performed.ticks);
+                registers = performed.registers.kept_apart();
+                let next = clock.wrapping_sub(performed.ticks);
                 if clock < performed.ticks {
-                    let left = Machine::new(registers, count + wrapping_add_u64(next, STEP), nmi);
+                    let left = Machine::new(registers, count + next.wrapping_add(STEP), nmi);
                     return Travelled::new(Reason::Made, bound, performed.first, left);
                 }
                 clock = next;
@@ -86,13 +90,6 @@ pub fn reach(irq: bool, bound: u64) -> u64
     if irq { bound } else { 1 }
 }
 
-// The lesser of two numbers.
-fn least(a: u64, b: u64) -> u64
-    ensures { result ≡ (if nat_lt a b then a else b) }
-{
-    if a < b { a } else { b }
-}
-
 // The most steps of a turn: more cycles than they take fit below a step on the clock.
 const MOST_STEPS: u64 = 0x100_0000;
 
@@ -101,29 +98,22 @@ const MOST_STEPS: u64 = 0x100_0000;
 pub fn fitting(bound: u64, cycles: u64) -> u64
     ensures { result ≡ fitting bound cycles }
 {
-    let room = if cycles <= HIGHEST_COUNT {
-        HIGHEST_COUNT - cycles
-    } else {
-        0
-    };
-    least(bound, least(room / 7 + 1, MOST_STEPS))
+    let room = HIGHEST_COUNT.saturating_sub(cycles);
+    bound.min((room / 7 + 1).min(MOST_STEPS))
 }
 
 // A turn: a line that is due is served, or steps are made, as many as no line can become due between. The machine that it
 // leaves has the present level of NMI, also if no step was made: then it is the one that was given that counts.
-pub fn turn(start: Machine, bound: u64, lines: Lines, memory: &mut [u8]) -> Travelled
-    requires { (length memory.old ≡ full_memory) × Calm lines bound × Fits start.cycles bound }
+pub fn turn(start: Machine, bound: u64, lines: Lines, memory: &mut Memory) -> Travelled
+    requires { Calm lines bound × Fits start.cycles bound }
     ensures { Gives (turning bound lines start) memory.old result memory.new }
 {
     if HIGHEST_COUNT < start.cycles {
         let left = Machine::new(start.registers, start.cycles, lines.nmi);
         return Travelled::new(Reason::NoCycleRoom, 0, 0, left);
     }
-    let waiting = lines.due(start);
-    match waiting {
-        Some(vector) => {
-            serve_line(vector, start.registers, start.cycles, lines.nmi, memory)
-        }
+    match lines.due(start) {
+        Some(vector) => serve_line(vector, start.registers, start.cycles, lines.nmi, memory),
         None => walk(start.registers, start.cycles, lines.nmi, bound, memory),
     }
 }
@@ -140,8 +130,7 @@ fn reached(start: Machine, ended: Ended) -> Machine
 }
 
 // At most `bound` steps on a full memory, turn by turn.
-fn travel(start: Machine, bound: u64, lines: Lines, memory: &mut [u8]) -> Ended
-    requires { length memory.old ≡ full_memory }
+fn travel(start: Machine, bound: u64, lines: Lines, memory: &mut Memory) -> Ended
     ensures { Gives (run_full bound 0 lines start) memory.old result memory.new }
 {
     let mut machine = start;
@@ -149,11 +138,10 @@ fn travel(start: Machine, bound: u64, lines: Lines, memory: &mut [u8]) -> Ended
     while steps < bound {
         let far = reach(lines.irq, fitting(bound - steps, machine.cycles));
         let ended = turn(machine, far, lines, memory).ended;
-        let reason = ended.reason;
         machine = reached(machine, ended);
         steps += ended.steps;
-        if !reason.is_made() {
-            return Ended::new(reason, steps, machine);
+        if !ended.reason.is_made() {
+            return Ended::new(ended.reason, steps, machine);
         }
     }
     Ended::new(Reason::Made, steps, machine)
@@ -163,22 +151,21 @@ fn travel(start: Machine, bound: u64, lines: Lines, memory: &mut [u8]) -> Ended
 pub fn single_step(machine: Machine, lines: Lines, memory: &mut [u8]) -> Stepped
     ensures { Gives (step (length memory.old) lines machine) memory.old result memory.new }
 {
-    if memory.len() != FULL_MEMORY {
+    let Some(memory) = memory.as_mut_array::<FULL_MEMORY>() else {
         return Stepped::new(Reason::MemoryNotFull, 0, machine);
-    }
+    };
     let turned = turn(machine, 1, lines, memory);
     let ended = turned.ended;
-    let reason = ended.reason;
-    Stepped::new(reason, turned.first, reached(machine, ended))
+    Stepped::new(ended.reason, turned.first, reached(machine, ended))
 }
 
 // A run of at most `bound` steps.
 pub fn run(machine: Machine, bound: u64, lines: Lines, memory: &mut [u8]) -> Ended
     ensures { Gives (run (length memory.old) bound lines machine) memory.old result memory.new }
 {
-    if memory.len() != FULL_MEMORY {
+    let Some(memory) = memory.as_mut_array::<FULL_MEMORY>() else {
         return Ended::new(Reason::MemoryNotFull, 0, machine);
-    }
+    };
     if HIGHEST_BOUND < bound {
         return Ended::new(Reason::BoundTooHigh, 0, machine);
     }
@@ -189,8 +176,8 @@ pub fn run(machine: Machine, bound: u64, lines: Lines, memory: &mut [u8]) -> End
 pub fn long_run(machine: Machine, steps: u64, lines: Lines, memory: &mut [u8]) -> Ended
     ensures { Gives (long_run (length memory.old) steps lines machine) memory.old result memory.new }
 {
-    if memory.len() != FULL_MEMORY {
+    let Some(memory) = memory.as_mut_array::<FULL_MEMORY>() else {
         return Ended::new(Reason::MemoryNotFull, 0, machine);
-    }
+    };
     travel(machine, steps, lines, memory)
 }

@@ -1,5 +1,5 @@
 -- A run that is halted before a step that would touch a guarded address.
-use Rattle.std.specs.Prelude.{ℕ, zero, suc, ◌+◌, Bool, cond, List, ◌==◌}
+use Rattle.std.specs.Prelude.{ℕ, zero, suc, ◌+◌, Bool, cond, List, ◌==◌, Option, Some, None}
 use Rattle.manual.specs.declared.Lines.{Lines}
 use Rattle.manual.specs.declared.Machine.{Machine}
 use Rattle.manual.specs.declared.Reason.{Reason}
@@ -8,7 +8,6 @@ use Rattle.manual.specs.Micro.{exec}
 use Rattle.manual.specs.Outcomes.{is_made, ended}
 use Rattle.manual.specs.Stepping.{full_memory, step_full}
 use Rattle.guard_maps.specs.declared.Touch.{Touch}
-use Rattle.guard_maps.specs.declared.Ahead.{Ahead}
 use Rattle.guard_maps.specs.Maps.{ahead_of}
 use Rattle.guard.specs.declared.Guarded.{Guarded}
 
@@ -19,9 +18,9 @@ ran reason k s = Guarded.Ran (ended reason k s)
 abbrev pub halted : Touch → ℕ → Machine → Guarded
 halted t k s = Guarded.Halted (record { touch = t; steps = k; machine = s })
 
-abbrev pub unless : {A : Type 0} → Ahead → (Touch → A) → A → A
-unless Ahead.Nothing stop go = go
-unless (Ahead.Touches t) stop go = stop t
+abbrev pub unless : {A : Type 0} → Option Touch → (Touch → A) → A → A
+unless None stop go = go
+unless (Some t) stop go = stop t
 
 -- n more steps on a full memory, after k
 unfoldable pub guarded_full : (ℕ → Bool) → (ℕ → Bool) → ℕ → ℕ → Lines → Machine → List ℕ → Guarded × List ℕ

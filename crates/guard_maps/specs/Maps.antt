@@ -1,14 +1,12 @@
 -- What is guarded, and what the next step would touch of it: an address that is guarded against reads, by the rules' list (ReadList of
 -- manual), or one that is guarded against stores (StoreList).
-use Rattle.std.specs.Prelude.{ℕ, ◌/◌, ◌%◌, ◌^◌, Bool, false, cond, List, [], ◌∷◌, eqb, get_or}
+use Rattle.std.specs.Prelude.{ℕ, ◌/◌, ◌%◌, ◌^◌, Bool, false, cond, List, [], ◌∷◌, eqb, get_or, Option, Some, None}
 use Rattle.laws.specs.Answers.{would_read, would_store}
 use Rattle.manual.specs.declared.Lines.{Lines}
 use Rattle.manual.specs.declared.Machine.{Machine}
 use Rattle.manual.specs.ReadList.{listed_step_full}
 use Rattle.manual.specs.StoreList.{stored_by_step_full}
 use Rattle.guard_maps.specs.declared.Touch.{Touch}
-use Rattle.guard_maps.specs.declared.Ahead.{Ahead}
-use Rattle.guard_maps.specs.declared.Found.{Found}
 
 -- ---- what is guarded
 
@@ -23,17 +21,17 @@ nowhere a = false
 -- ---- what the next step would touch
 
 -- the first guarded address of a list
-unfoldable pub first_in : (ℕ → Bool) → List ℕ → Found
-first_in guards [] = Found.Nothing
-first_in guards (a ∷ l) = cond (guards a) (Found.At a) (first_in guards l)
+unfoldable pub first_in : (ℕ → Bool) → List ℕ → Option ℕ
+first_in guards [] = None
+first_in guards (a ∷ l) = cond (guards a) (Some a) (first_in guards l)
 
 -- of what it would read, and only then of what it would store to
-abbrev pub touching : Found → Found → Ahead
-touching (Found.At a) stored = Ahead.Touches (Touch.Read a)
-touching Found.Nothing (Found.At a) = Ahead.Touches (Touch.Store a)
-touching Found.Nothing Found.Nothing = Ahead.Nothing
+abbrev pub touching : Option ℕ → Option ℕ → Option Touch
+touching (Some a) stored = Some (Touch.Read a)
+touching None (Some a) = Some (Touch.Store a)
+touching None None = None
 
-abbrev pub ahead_of : (ℕ → Bool) → (ℕ → Bool) → Lines → Machine → List ℕ → Ahead
+abbrev pub ahead_of : (ℕ → Bool) → (ℕ → Bool) → Lines → Machine → List ℕ → Option Touch
 ahead_of reads stores lines s m = touching (first_in reads (listed_step_full lines s m)) (first_in stores (stored_by_step_full lines s m))
 
 -- the answer before such a step, and the address

@@ -10,19 +10,13 @@ ghost use Rattle.trace_line.specs.Lines.{longest_line};
 use manual::{FULL_MEMORY, Machine};
 use statuses::Goal;
 use text_writing::Writer;
-use trace_line::{Line, put_line, read_state};
+use trace_line::{put_line, read_state};
 
-// Where a run begins: as the image's own program does, or from the state of a run that was halted.
-#[derive(Clone, Copy)]
-pub enum Start {
-    Image,
-    From(Machine),
-}
-
-// What a file is: where its run begins, and how many of its bytes are the memory.
+// What a file is: the state that its run goes on from, none if the image's own program begins it, and how many of its bytes are the
+// memory.
 #[derive(Clone, Copy)]
 pub struct Opened {
-    pub start: Start,
+    pub start: Option<Machine>,
     pub size: usize,
 }
 
@@ -30,11 +24,7 @@ pub struct Opened {
 pub fn is_halted(file: &[u8]) -> bool
     ensures { result ≡ is_halted file.now }
 {
-    let line = read_state(file, FULL_MEMORY);
-    match line {
-        Line::State(spelled) => spelled.next == file.len(),
-        Line::Malformed => false,
-    }
+    matches!(read_state(file, FULL_MEMORY), Some(spelled) if spelled.next == file.len())
 }
 
 // Opens a file. One that is no halted run is all memory.
@@ -42,25 +32,14 @@ pub fn open(file: &[u8]) -> Opened
     ensures start_value { (result.start ≡ start_of file.now) × (take result.size file.now ≡ memory_of file.now) }
     ensures prefix_len { IsPrefixLen result.size file.now }
 {
-    let end = file.len();
-    let line = read_state(file, FULL_MEMORY);
-    match line {
-        Line::State(spelled) => {
-            if spelled.next == end {
-                let machine = spelled.machine;
-                return Opened {
-                    start: Start::From(machine),
-                    size: FULL_MEMORY,
-                };
-            }
-            Opened {
-                start: Start::Image,
-                size: end,
-            }
-        }
-        Line::Malformed => Opened {
-            start: Start::Image,
-            size: end,
+    match read_state(file, FULL_MEMORY) {
+        Some(spelled) if spelled.next == file.len() => Opened {
+            start: Some(spelled.machine),
+            size: FULL_MEMORY,
+        },
+        _ => Opened {
+            start: None,
+            size: file.len(),
         },
     }
 }

@@ -1,13 +1,13 @@
 // One line of the listing.
-ghost use Rattle.std.specs.Prelude.{◌≤◌, ◌<◌, ◌≡◌, length, get_or, None};
+ghost use Rattle.std.specs.Prelude.{◌≤◌, ◌<◌, ◌≡◌, None, get_or};
 ghost use Rattle.instruction.specs.Opcodes.{decoded};
-ghost use Rattle.text_writing.specs.Written.{Wrote};
+ghost use Rattle.text_writing.specs.Written.{Writes};
 ghost use Rattle.listing.specs.Lines.{bytes_from, byte_fields, size as Lines·size, words, line_of, text as Lines·text, instruction_at};
 
 use listing_operands::put_operand;
-use memory::{Address, get_byte};
+use memory::{Address, Memory, get_byte};
 use opcode_table::{decode, name_of};
-use text_writing::{put_byte, put_hex4, put_spaced_hex2, put_text};
+use text_writing::Writer;
 
 // How many bytes the line of an opcode takes.
 pub(crate) fn line_size(opcode: u8) -> u16
@@ -16,40 +16,26 @@ pub(crate) fn line_size(opcode: u8) -> u16
 {
     match decode(opcode) {
         None => 1,
-        Some(entry) => {
-            let mode = entry.mode;
-            1 + mode.extra_bytes()
-        }
+        Some(entry) => 1 + entry.mode.extra_bytes(),
     }
 }
 
 // So many bytes from an address on, with a space before each.
-fn put_bytes(out: &mut [u8], at: usize, memory: &[u8], start: u16, count: u16) -> usize
-    requires { length memory.now ≡ 65536 }
-    ensures { Wrote out.old at (byte_fields (bytes_from memory.now start count)) out.new result }
+fn put_bytes(out: &mut Writer, memory: &Memory, start: u16, count: u16)
+    ensures { Writes out.old (byte_fields (bytes_from memory.now start count)) out.new }
 {
-    let mut next = at;
-    let mut i: u16 = 0;
-    while i < count {
-        next = put_spaced_hex2(out, next, get_byte(memory, Address(start).plus(i)));
-        i += 1;
+    for i in 0..count {
+        out.put_spaced_hex2(get_byte(memory, Address(start).plus(i)));
     }
-    next
 }
 
 // The name of an opcode at an address, and its operand.
-fn put_words(out: &mut [u8], at: usize, opcode: u8, memory: &[u8], address: u16) -> usize
-    requires { length memory.now ≡ 65536 }
-    ensures { Wrote out.old at (words memory.now address (decoded opcode)) out.new result }
+fn put_words(out: &mut Writer, opcode: u8, memory: &Memory, address: u16)
+    ensures { Writes out.old (words memory.now address (decoded opcode)) out.new }
 {
-    let name = name_of(opcode);
-    let after_name = put_text(out, at, &name);
-    match decode(opcode) {
-        None => after_name,
-        Some(entry) => {
-            let mode = entry.mode;
-            put_operand(out, after_name, mode, memory, address)
-        }
+    out.put_text(&name_of(opcode));
+    if let Some(entry) = decode(opcode) {
+        put_operand(out, entry.mode, memory, address);
     }
 }
 
@@ -57,37 +43,29 @@ fn put_words(out: &mut [u8], at: usize, opcode: u8, memory: &[u8], address: u16)
 pub const LONGEST_INSTRUCTION: usize = 25;
 
 // The line of what stands at an address, but for its end.
-pub fn put_instruction(out: &mut [u8], at: usize, memory: &[u8], address: u16) -> usize
-    requires { length memory.now ≡ 65536 }
-    ensures { Wrote out.old at (instruction_at memory.now address) out.new result }
+pub fn put_instruction(out: &mut Writer, memory: &Memory, address: u16)
+    ensures { Writes out.old (instruction_at memory.now address) out.new }
 {
     let opcode = get_byte(memory, Address(address));
-    let after_address = put_hex4(out, at, address);
-    let after_bytes = put_bytes(out, after_address, memory, address, line_size(opcode));
-    let after_space = put_byte(out, after_bytes, b' ');
-    put_words(out, after_space, opcode, memory, address)
+    out.put_hex4(address);
+    put_bytes(out, memory, address, line_size(opcode));
+    out.put_byte(b' ');
+    put_words(out, opcode, memory, address);
 }
 
 // Its line.
-pub(crate) fn put_line(out: &mut [u8], at: usize, memory: &[u8], address: u16) -> usize
-    requires { length memory.now ≡ 65536 }
-    ensures { Wrote
-        out.old
-        at
-        (Lines·text (line_of memory.now address (decoded (get_or memory.now address 0))))
-        out.new
-        result }
+pub(crate) fn put_line(out: &mut Writer, memory: &Memory, address: u16)
+    ensures { Writes out.old (Lines·text (line_of memory.now address (decoded (get_or memory.now address 0)))) out.new }
 {
-    let after_instruction = put_instruction(out, at, memory, address);
-    put_byte(out, after_instruction, b'\n')
+    put_instruction(out, memory, address);
+    out.put_byte(b'\n');
 }
 
 // The line of a byte that is no whole instruction.
-pub(crate) fn put_unknown(out: &mut [u8], at: usize, memory: &[u8], address: u16) -> usize
-    requires { length memory.now ≡ 65536 }
-    ensures { Wrote out.old at (Lines·text (line_of memory.now address Undefined)) out.new result }
+pub(crate) fn put_unknown(out: &mut Writer, memory: &Memory, address: u16)
+    ensures { Writes out.old (Lines·text (line_of memory.now address None)) out.new }
 {
-    let after_address = put_hex4(out, at, address);
-    let after_byte = put_bytes(out, after_address, memory, address, 1);
-    put_text(out, after_byte, b" ???\n")
+    out.put_hex4(address);
+    put_bytes(out, memory, address, 1);
+    out.put_text(b" ???\n");
 }

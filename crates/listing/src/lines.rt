@@ -1,38 +1,36 @@
 // The lines of a stretch.
-ghost use Rattle.std.specs.Prelude.{◌≤◌, ◌-◌, ◌≡◌, length};
-ghost use Rattle.text_writing.specs.Written.{Wrote};
+ghost use Rattle.std.specs.Prelude.{◌≤◌, ◌-◌};
+ghost use Rattle.text_writing.specs.Written.{Writes};
 ghost use Rattle.listing.specs.Lines.{lines, unknown, texts};
 
 use crate::line::{line_size, put_line, put_unknown};
+use memory::Memory;
+use text_writing::Writer;
 
 // Bytes that are no whole instruction, up to the end.
-fn put_rest(out: &mut [u8], at: usize, memory: &[u8], start: usize, end: usize) -> usize
-    requires { (start ≤ end) × (end ≤ length memory.now) × (length memory.now ≡ 65536) }
-    ensures { Wrote out.old at (texts (unknown memory.now start (end - start))) out.new result }
+fn put_rest(out: &mut Writer, memory: &Memory, start: usize, end: usize)
+    requires { (start ≤ end) × (end ≤ 65536) }
+    ensures { Writes out.old (texts (unknown memory.now start (end - start))) out.new }
 {
-    let mut next = at;
-    let mut address = start;
-    while address < end {
-        next = put_unknown(out, next, memory, address as u16);
-        address += 1;
+    for address in start..end {
+        put_unknown(out, memory, address as u16);
     }
-    next
 }
 
 // The lines up to the end.
-pub(crate) fn put_lines(out: &mut [u8], at: usize, memory: &[u8], first: usize, end: usize) -> usize
-    requires { (first ≤ end) × (end ≤ length memory.now) × (length memory.now ≡ 65536) }
-    ensures { Wrote out.old at (texts (lines memory.now first (end - first) 0)) out.new result }
+pub(crate) fn put_lines(out: &mut Writer, memory: &Memory, first: usize, end: usize)
+    requires { (first ≤ end) × (end ≤ 65536) }
+    ensures { Writes out.old (texts (lines memory.now first (end - first) 0)) out.new }
 {
-    let mut next = at;
     let mut address = first;
+    // no `for`: a line takes as many bytes as its instruction, so no range has the addresses of the lines
     while address < end {
         let size = line_size(memory[address]) as usize;
         if end < address + size {
-            return put_rest(out, next, memory, address, end);
+            put_rest(out, memory, address, end);
+            return;
         }
-        next = put_line(out, next, memory, address as u16);
+        put_line(out, memory, address as u16);
         address += size;
     }
-    next
 }

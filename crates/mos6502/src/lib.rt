@@ -1,11 +1,11 @@
 // The core on numbers. A host in C or Rust calls it by the archive of `mos6502_c`; a step by itself is in `mos6502_step`.
 #![tactic(auto)]
 
-ghost use Rattle.std.specs.Prelude.{◌≡◌, true, ◌<◌, length};
+ghost use Rattle.std.specs.Prelude.{◌≡◌, true, ◌<◌};
 ghost use Rattle.registers.specs.State.{registers_of};
 ghost use Rattle.registers.specs.StatusByte.{bit, pushed_byte, pulled_status};
 ghost use Rattle.mos6502_numbers.specs.Packed.{packed, unpacked, unpacked_nmi};
-ghost use Rattle.manual.specs.Stepping.{full_memory, run_full};
+ghost use Rattle.manual.specs.Stepping.{run_full};
 ghost use Rattle.manual.specs.Micro.{exec, Gives};
 ghost use Rattle.cpu.specs.Inner.Turning.{Calm, Fits, going, turning, settled};
 ghost use Rattle.mos6502_numbers.specs.Machines.{machine_from, lines_from};
@@ -16,6 +16,7 @@ use cpu::{fitting, turn};
 use cpu_cycles::sure_steps;
 use laws::answers::*;
 use manual::{FULL_MEMORY, HIGHEST_BOUND};
+use memory::Memory;
 use mos6502_numbers::{hand_back, lines_from, machine_from, pack, unpack, unpack_nmi};
 use registers::{Registers, Status, flag};
 
@@ -86,9 +87,9 @@ fn advance(
     steps: &mut u64,
     bound: u64,
     lines: u8,
-    memory: &mut [u8],
+    memory: &mut Memory,
 ) -> u8
-    requires { (length memory.old ≡ full_memory) × Calm (lines_from lines) bound × Fits cycles.old bound }
+    requires { Calm (lines_from lines) bound × Fits cycles.old bound }
     ensures gives { Gives
         (turn_on_numbers bound lines registers.old cycles.old)
         memory.old
@@ -107,10 +108,9 @@ fn advance(
         memory,
     );
     let ended = turned.ended;
-    let reason = ended.reason;
     *steps = ended.steps;
     hand_back(0 < ended.steps, ended.machine, registers, cycles);
-    u8::from(reason)
+    u8::from(ended.reason)
 }
 
 // A turn of at most `bound` steps on numbers: with IRQ high as many as there is room for, and with IRQ low one. With one call for the
@@ -121,9 +121,9 @@ fn one_turn(
     steps: &mut u64,
     bound: u64,
     lines: u8,
-    memory: &mut [u8],
+    memory: &mut Memory,
 ) -> u8
-    requires { (length memory.old ≡ full_memory) × (0 < bound) }
+    requires { 0 < bound }
     ensures gives { Gives
         (turn_on_numbers (going (lines_from lines) cycles.old bound) lines registers.old cycles.old)
         memory.old
@@ -151,9 +151,8 @@ fn go_on(
     steps: &mut u64,
     bound: u64,
     lines: u8,
-    memory: &mut [u8],
+    memory: &mut Memory,
 ) -> u8
-    requires { length memory.old ≡ full_memory }
     ensures gives { Gives
         (run_full_on_numbers bound lines registers.old cycles.old)
         memory.old
@@ -189,10 +188,10 @@ pub fn mos6502_run(
         (record { answer = result; steps = steps.new; registers = registers.new; cycles = cycles.new })
         memory.new }
 {
-    if memory.len() != FULL_MEMORY {
+    let Some(memory) = memory.as_mut_array::<FULL_MEMORY>() else {
         *steps = 0;
         return MEMORY_NOT_FULL;
-    }
+    };
     if HIGHEST_BOUND < bound {
         *steps = 0;
         return BOUND_TOO_HIGH;
@@ -213,10 +212,10 @@ pub fn mos6502_long_run(
         (record { answer = result; steps = steps.new; registers = registers.new; cycles = cycles.new })
         memory.new }
 {
-    if memory.len() != FULL_MEMORY {
+    let Some(memory) = memory.as_mut_array::<FULL_MEMORY>() else {
         *steps = 0;
         return MEMORY_NOT_FULL;
-    }
+    };
     go_on(registers, cycles, steps, bound, lines, memory)
 }
 
@@ -234,10 +233,10 @@ pub fn mos6502_run_cycles(
         (record { answer = result; steps = steps.new; registers = registers.new; cycles = cycles.new })
         memory.new }
 {
-    if memory.len() != FULL_MEMORY {
+    let Some(memory) = memory.as_mut_array::<FULL_MEMORY>() else {
         *steps = 0;
         return MEMORY_NOT_FULL;
-    }
+    };
     if HIGHEST_BOUND < limit {
         *steps = 0;
         return BOUND_TOO_HIGH;

@@ -4,6 +4,8 @@
 ghost use Rattle.std.specs.Prelude.{◌≡◌};
 ghost use Rattle.listing.specs.Listing.{listing_into};
 
+use text_writing::numbers_of;
+
 // Lists the memory from a first to a last address.
 #[unsafe(no_mangle)]
 pub extern "C" fn mos6502_list(
@@ -16,9 +18,9 @@ pub extern "C" fn mos6502_list(
     ensures { record { answer = result; size = size.new; buffer = text.new }
         ≡ listing_into memory.now first last text.old }
 {
-    let delivery = listing::list(memory, first, last, text);
-    *size = delivery.size;
-    delivery.answer
+    let (answer, length) = numbers_of(listing::list(memory, first, last, text));
+    *size = length;
+    answer
 }
 
 // The version of these functions. A host asks for it by this name, so that an older archive does not link, and the linker says

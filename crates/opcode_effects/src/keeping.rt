@@ -1,18 +1,17 @@
 // A row that keeps the memory as it is, carried out.
-ghost use Rattle.std.specs.Prelude.{◌≡◌, false, ◌+◌, ◌≤◌, length};
+ghost use Rattle.std.specs.Prelude.{◌≡◌, false, ◌+◌, ◌≤◌};
 ghost use Rattle.instruction.specs.Theorems.Table.{most_extra};
 ghost use Rattle.opcode_numbers.specs.Inner.Operations.{operation_at, mode_at};
 ghost use Rattle.opcode_numbers.specs.Inner.Storing.{stores_in};
 ghost use Rattle.manual.specs.Micro.{Gives};
 ghost use Rattle.manual.specs.Instructions.{perform};
-ghost use Rattle.manual.specs.Stepping.{full_memory};
 ghost use Rattle.opcode_effects.specs.Inner.Performing.{entry_of, read_entry, performed, fetching, finished};
 
 use crate::{Pending, Row, counted, ticks_of};
 use addressing::{advanced, target_of};
 use instruction::{AddressingMode, Instruction, ReadOperation};
 use manual::{Effect, leaves};
-use memory::{Address, get_byte};
+use memory::{Address, Memory, get_byte};
 use opcode_numbers::{mode_at, operation_at};
 use operations::{branch, internal, jump, modify_accumulator, read};
 use registers::{Registers, flag};
@@ -23,9 +22,9 @@ fn execute_keeping(
     instruction: Instruction,
     mode: AddressingMode,
     registers: Registers,
-    memory: &[u8],
+    memory: &Memory,
 ) -> Effect
-    requires { (length memory.now ≡ full_memory) × (stores_in instruction mode ≡ false) }
+    requires { stores_in instruction mode ≡ false }
     ensures { Gives (perform instruction mode registers) memory.now result memory.now }
 {
     match instruction {
@@ -44,9 +43,8 @@ fn execute_keeping(
 
 // A row that keeps the memory as it is. Its operation and its mode come as numbers: where it is called they are fixed, so that
 // the compiler leaves the rest out; and a row that makes no enum is checked in a third of the time.
-pub fn keeps(operation: u8, mode: u8, cycles: u8, registers: Registers, memory: &[u8]) -> Row
-    requires { (length memory.now ≡ full_memory)
-        × (cycles + most_extra (operation_at operation) ≤ 7)
+pub fn keeps(operation: u8, mode: u8, cycles: u8, registers: Registers, memory: &Memory) -> Row
+    requires { (cycles + most_extra (operation_at operation) ≤ 7)
         × (stores_in (operation_at operation) (mode_at mode) ≡ false) }
     ensures { Gives (performed (entry_of operation mode cycles) registers) memory.now (finished result) memory.now }
 {
@@ -57,8 +55,8 @@ pub fn keeps(operation: u8, mode: u8, cycles: u8, registers: Registers, memory: 
 }
 
 // The byte that an operation reads, and the registers past it: a page cross is charged.
-fn fetched(mode: AddressingMode, cycles: u8, registers: Registers, memory: &[u8]) -> Pending
-    requires { (length memory.now ≡ full_memory) × (cycles ≤ 6) }
+fn fetched(mode: AddressingMode, cycles: u8, registers: Registers, memory: &Memory) -> Pending
+    requires { cycles ≤ 6 }
     ensures { Gives (fetching mode cycles registers) memory.now result memory.now }
 {
     let target = target_of(mode, registers, memory);
@@ -68,21 +66,21 @@ fn fetched(mode: AddressingMode, cycles: u8, registers: Registers, memory: &[u8]
         registers: past,
         ticks: ticks_of(cycles, flag(target.crossed)),
         first: target.first,
-        value: value,
+        value,
     }
 }
 
 // A row of ADC.
-pub fn adds(mode: u8, cycles: u8, registers: Registers, memory: &[u8]) -> Row
-    requires { (length memory.now ≡ full_memory) × (cycles ≤ 6) }
+pub fn adds(mode: u8, cycles: u8, registers: Registers, memory: &Memory) -> Row
+    requires { cycles ≤ 6 }
     ensures { Gives (performed (read_entry ReadOperation.ADC (mode_at mode) cycles) registers) memory.now (finished result) memory.now }
 {
     Row::Adding(fetched(mode_at(mode), cycles, registers, memory))
 }
 
 // A row of SBC.
-pub fn subtracts(mode: u8, cycles: u8, registers: Registers, memory: &[u8]) -> Row
-    requires { (length memory.now ≡ full_memory) × (cycles ≤ 6) }
+pub fn subtracts(mode: u8, cycles: u8, registers: Registers, memory: &Memory) -> Row
+    requires { cycles ≤ 6 }
     ensures { Gives (performed (read_entry ReadOperation.SBC (mode_at mode) cycles) registers) memory.now (finished result) memory.now }
 {
     Row::Subtracting(fetched(mode_at(mode), cycles, registers, memory))

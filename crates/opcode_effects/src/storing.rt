@@ -1,16 +1,16 @@
 // A row that stores, carried out.
-ghost use Rattle.std.specs.Prelude.{◌≡◌, true, ◌+◌, ◌≤◌, length};
+ghost use Rattle.std.specs.Prelude.{◌≡◌, true, ◌+◌, ◌≤◌};
 ghost use Rattle.instruction.specs.Theorems.Table.{most_extra};
 ghost use Rattle.opcode_numbers.specs.Inner.Operations.{operation_at, mode_at};
 ghost use Rattle.opcode_numbers.specs.Inner.Storing.{stores_in};
 ghost use Rattle.manual.specs.Micro.{Gives};
 ghost use Rattle.manual.specs.Instructions.{perform};
-ghost use Rattle.manual.specs.Stepping.{full_memory};
 ghost use Rattle.opcode_effects.specs.Inner.Performing.{entry_of, performed, finished};
 
 use crate::{Row, counted};
 use instruction::{AddressingMode, Instruction};
 use manual::{Effect, leaves};
+use memory::Memory;
 use opcode_numbers::{mode_at, storing_at};
 use operations::{modify, store};
 use registers::Registers;
@@ -21,9 +21,9 @@ fn execute_storing(
     instruction: Instruction,
     mode: AddressingMode,
     registers: Registers,
-    memory: &mut [u8],
+    memory: &mut Memory,
 ) -> Effect
-    requires { (length memory.old ≡ full_memory) × (stores_in instruction mode ≡ true) }
+    requires { stores_in instruction mode ≡ true }
     ensures { Gives (perform instruction mode registers) memory.old result memory.new }
 {
     match instruction {
@@ -38,9 +38,8 @@ fn execute_storing(
 }
 
 // The row. Its operation and its mode come as numbers, as in `keeps`.
-pub fn stores(operation: u8, mode: u8, cycles: u8, registers: Registers, memory: &mut [u8]) -> Row
-    requires { (length memory.old ≡ full_memory)
-        × (cycles + most_extra (operation_at operation) ≤ 7)
+pub fn stores(operation: u8, mode: u8, cycles: u8, registers: Registers, memory: &mut Memory) -> Row
+    requires { (cycles + most_extra (operation_at operation) ≤ 7)
         × (stores_in (operation_at operation) (mode_at mode) ≡ true) }
     ensures { Gives (performed (entry_of operation mode cycles) registers) memory.old (finished result) memory.new }
 {

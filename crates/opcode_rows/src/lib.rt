@@ -2,19 +2,18 @@
 // three are fixed, and the compiler leaves out of it all that the opcode does not do. It makes one jump of the `match`.
 #![tactic(auto)]
 
-ghost use Rattle.std.specs.Prelude.{◌≡◌, length};
+ghost use Rattle.std.specs.Prelude.{◌≡◌};
 ghost use Rattle.instruction.specs.Opcodes.{decoded};
 ghost use Rattle.manual.specs.Micro.{Gives};
-ghost use Rattle.manual.specs.Stepping.{full_memory};
 ghost use Rattle.opcode_effects.specs.Inner.Performing.{dispatched, finished};
 
-use opcode_effects::{Row, adds, finish, keeps, stores, subtracts};
+use memory::Memory;
+use opcode_effects::{Performed, Row, adds, finish, keeps, stores, subtracts};
 use opcode_numbers::number::*;
 use registers::Registers;
 
 // The opcode's row.
-fn line(opcode: u8, registers: Registers, memory: &mut [u8]) -> Row
-    requires { length memory.old ≡ full_memory }
+fn line(opcode: u8, registers: Registers, memory: &mut Memory) -> Row
     ensures { Gives (dispatched (decoded opcode) registers) memory.old (finished result) memory.new }
 {
     match opcode {
@@ -174,8 +173,7 @@ fn line(opcode: u8, registers: Registers, memory: &mut [u8]) -> Row
 }
 
 // What an opcode does. The compiler puts it into the loop that calls it, if there is one call alone.
-pub fn dispatch(opcode: u8, registers: Registers, memory: &mut [u8]) -> Option<Performed>
-    requires { length memory.old ≡ full_memory }
+pub fn dispatch(opcode: u8, registers: Registers, memory: &mut Memory) -> Option<Performed>
     ensures { Gives (dispatched (decoded opcode) registers) memory.old result memory.new }
 {
     finish(line(opcode, registers, memory))

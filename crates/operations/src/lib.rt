@@ -1,12 +1,11 @@
 // What each class of instruction does that does not use the stack, after execute_instruction of cpu.rs.
 #![tactic(auto)]
 
-ghost use Rattle.std.specs.Prelude.{◌≡◌, length};
+ghost use Rattle.std.specs.Prelude.{◌≡◌};
 ghost use Rattle.instruction.specs.Modes.{operand_bytes};
 ghost use Rattle.manual.specs.Micro.{done, Gives};
 ghost use Rattle.manual.specs.Branching.{holds};
 ghost use Rattle.manual.specs.Instructions.{stored, advanced, perform};
-ghost use Rattle.manual.specs.Stepping.{full_memory};
 
 use addressing::{advanced, target_of};
 use alu::{apply_internal, apply_read, modify_byte, set_flags_from_modified};
@@ -15,17 +14,17 @@ use instruction::{
     ReadOperation, StoreOperation,
 };
 use manual::{Effect, leaves, leaves_at};
-use memory::{Address, get_byte, set_byte};
+use memory::{Address, Memory, get_byte, set_byte};
 use registers::{Registers, Status, flag};
 
 // Loads, logic, ADC, SBC, compares and BIT: a page cross is charged.
+#[tactic(auto, using(manual::proofs::Lemmas::InstructionLaws::read_gives))]
 pub fn read(
     operation: ReadOperation,
     mode: AddressingMode,
     registers: Registers,
-    memory: &[u8],
+    memory: &Memory,
 ) -> Effect
-    requires { length memory.now ≡ full_memory }
     ensures { Gives (perform (Instruction.Read operation) mode registers) memory.now result memory.now }
 {
     let target = target_of(mode, registers, memory);
@@ -46,13 +45,13 @@ fn stored(operation: StoreOperation, registers: Registers) -> u8
 }
 
 // Stores: no page cross is charged.
+#[tactic(auto, using(manual::proofs::Lemmas::InstructionLaws::store_gives))]
 pub fn store(
     operation: StoreOperation,
     mode: AddressingMode,
     registers: Registers,
-    memory: &mut [u8],
+    memory: &mut Memory,
 ) -> Effect
-    requires { length memory.old ≡ full_memory }
     ensures { Gives (perform (Instruction.Store operation) mode registers) memory.old result memory.new }
 {
     let target = target_of(mode, registers, memory);
@@ -65,6 +64,7 @@ pub fn store(
 }
 
 // A shift or a rotate of the accumulator, which nothing is read or stored for.
+#[tactic(auto, using(manual::proofs::Lemmas::InstructionLaws::modify_accumulator_done))]
 pub fn modify_accumulator(
     operation: ModifyOperation,
     mode: AddressingMode,
@@ -80,13 +80,14 @@ pub fn modify_accumulator(
 }
 
 // Shifts, rotates, INC and DEC of a byte in memory: no page cross is charged.
+#[tactic(auto, unfolding(manual::specs::Instructions::perform), using(manual::proofs::Lemmas::InstructionLaws::modify_memory_gives))]
 pub fn modify(
     operation: ModifyOperation,
     mode: AddressingMode,
     registers: Registers,
-    memory: &mut [u8],
+    memory: &mut Memory,
 ) -> Effect
-    requires { (length memory.old ≡ full_memory) × (operand_bytes mode ≡ 0 → ⊥) }
+    requires { operand_bytes mode ≡ 0 → ⊥ }
     ensures { Gives (perform (Instruction.Modify operation) mode registers) memory.old result memory.new }
 {
     let target = target_of(mode, registers, memory);
@@ -121,9 +122,8 @@ pub fn branch(
     operation: BranchOperation,
     mode: AddressingMode,
     registers: Registers,
-    memory: &[u8],
+    memory: &Memory,
 ) -> Effect
-    requires { length memory.now ≡ full_memory }
     ensures { Gives (perform (Instruction.Branch operation) mode registers) memory.now result memory.now }
 {
     let status = registers.status;
@@ -137,6 +137,7 @@ pub fn branch(
 }
 
 // The operations on registers and flags alone.
+#[tactic(auto, unfolding(manual::specs::Instructions::perform))]
 pub fn internal(operation: InternalOperation, mode: AddressingMode, registers: Registers) -> Effect
     ensures { perform (Instruction.Internal operation) mode registers ≡ done result }
 {
@@ -144,8 +145,8 @@ pub fn internal(operation: InternalOperation, mode: AddressingMode, registers: R
 }
 
 // JMP.
-pub fn jump(mode: AddressingMode, registers: Registers, memory: &[u8]) -> Effect
-    requires { length memory.now ≡ full_memory }
+#[tactic(auto, using(manual::proofs::Lemmas::InstructionLaws::jump_gives))]
+pub fn jump(mode: AddressingMode, registers: Registers, memory: &Memory) -> Effect
     ensures { Gives (perform Instruction.JMP mode registers) memory.now result memory.now }
 {
     let target = target_of(mode, registers, memory);

@@ -1,15 +1,14 @@
 // A byte and an address on the stack, which is page 01.
-ghost use Rattle.std.specs.Prelude.{◌≡◌, length};
+ghost use Rattle.std.specs.Prelude.{◌≡◌};
 ghost use Rattle.manual.specs.Micro.{Gives};
 ghost use Rattle.manual.specs.Stack.{push, pull, push_address, pull_address};
-ghost use Rattle.manual.specs.Stepping.{full_memory};
 
-use memory::{Address, address_from_bytes, get_byte, join, set_byte};
+use memory::{Address, Memory, address_from_bytes, get_byte, join, set_byte};
 use registers::Registers;
 
 // Stores, then lowers the pointer.
-pub(crate) fn push_on_stack(registers: Registers, memory: &mut [u8], byte: u8) -> Registers
-    requires { length memory.old ≡ full_memory }
+#[tactic(auto, unfolding(manual::specs::Stack::push))]
+pub(crate) fn push_on_stack(registers: Registers, memory: &mut Memory, byte: u8) -> Registers
     ensures { Gives (push byte registers) memory.old result memory.new }
 {
     let stack = registers.stack;
@@ -24,8 +23,8 @@ pub(crate) struct Pulled {
 }
 
 // Raises the pointer, then reads.
-pub(crate) fn pull_from_stack(registers: Registers, memory: &[u8]) -> Pulled
-    requires { length memory.now ≡ full_memory }
+#[tactic(auto, unfolding(manual::specs::Stack::pull))]
+pub(crate) fn pull_from_stack(registers: Registers, memory: &Memory) -> Pulled
     ensures { Gives (pull registers) memory.now (result.byte, result.registers) memory.now }
 {
     let stack = registers.stack.increment();
@@ -37,8 +36,7 @@ pub(crate) fn pull_from_stack(registers: Registers, memory: &[u8]) -> Pulled
 }
 
 // The high byte first.
-pub(crate) fn push_address(registers: Registers, memory: &mut [u8], at: Address) -> Registers
-    requires { length memory.old ≡ full_memory }
+pub(crate) fn push_address(registers: Registers, memory: &mut Memory, at: Address) -> Registers
     ensures { Gives (push_address at.0 registers) memory.old result memory.new }
 {
     let after = push_on_stack(registers, memory, at.high());
@@ -52,8 +50,7 @@ pub(crate) struct PulledAddress {
 }
 
 // The low byte first.
-pub(crate) fn pull_address(registers: Registers, memory: &[u8]) -> PulledAddress
-    requires { length memory.now ≡ full_memory }
+pub(crate) fn pull_address(registers: Registers, memory: &Memory) -> PulledAddress
     ensures { Gives (pull_address registers) memory.now (result.at.0, result.registers) memory.now }
 {
     let first = pull_from_stack(registers, memory);
@@ -61,7 +58,7 @@ pub(crate) fn pull_address(registers: Registers, memory: &[u8]) -> PulledAddress
     let at = address_from_bytes([first.byte, second.byte]);
     let after = second.registers;
     PulledAddress {
-        at: at,
+        at,
         registers: after,
     }
 }

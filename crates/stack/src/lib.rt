@@ -4,23 +4,22 @@
 
 mod bytes; // bytes.rt: a byte and an address on the stack
 
-ghost use Rattle.std.specs.Prelude.{◌≡◌, ◌+◌, ◌<◌, length};
+ghost use Rattle.std.specs.Prelude.{◌≡◌, ◌+◌, ◌<◌};
 ghost use Rattle.manual.specs.Micro.{Gives};
 ghost use Rattle.manual.specs.Interrupts.{enter, served};
 ghost use Rattle.manual.specs.Instructions.{perform};
-ghost use Rattle.manual.specs.Stepping.{full_memory};
 
 use addressing::{advanced, operand_at};
 use alu::load_accumulator;
 use bytes::{pull_address, pull_from_stack, push_address, push_on_stack};
 use instruction::{AddressingMode, Instruction};
 use manual::{Effect, IRQ_VECTOR, leaves, leaves_at};
-use memory::{Address, address_from_bytes, get_byte, read_address};
+use memory::{Address, Memory, address_from_bytes, get_byte, read_address};
 use registers::{Registers, Status};
 
 // JSR: the high byte of the operand is read after the return address is pushed, which may have changed it.
-pub fn jump_to_subroutine(mode: AddressingMode, registers: Registers, memory: &mut [u8]) -> Effect
-    requires { length memory.old ≡ full_memory }
+#[tactic(auto, using(manual::proofs::Lemmas::InstructionLaws::call_gives))]
+pub fn jump_to_subroutine(mode: AddressingMode, registers: Registers, memory: &mut Memory) -> Effect
     ensures { Gives (perform Instruction.JSR mode registers) memory.old result memory.new }
 {
     let low = get_byte(memory, operand_at(registers, 1));
@@ -31,8 +30,8 @@ pub fn jump_to_subroutine(mode: AddressingMode, registers: Registers, memory: &m
 }
 
 // RTS: the counter goes one past the address that is pulled.
-pub fn return_from_subroutine(mode: AddressingMode, registers: Registers, memory: &[u8]) -> Effect
-    requires { length memory.now ≡ full_memory }
+#[tactic(auto, using(manual::proofs::Lemmas::InstructionLaws::return_gives))]
+pub fn return_from_subroutine(mode: AddressingMode, registers: Registers, memory: &Memory) -> Effect
     ensures { Gives (perform Instruction.RTS mode registers) memory.now result memory.now }
 {
     let pulled = pull_address(registers, memory);
@@ -42,8 +41,8 @@ pub fn return_from_subroutine(mode: AddressingMode, registers: Registers, memory
 }
 
 // RTI: the status is pulled, then the counter.
-pub fn return_from_interrupt(mode: AddressingMode, registers: Registers, memory: &[u8]) -> Effect
-    requires { length memory.now ≡ full_memory }
+#[tactic(auto, using(manual::proofs::Lemmas::InstructionLaws::return_from_interrupt_gives))]
+pub fn return_from_interrupt(mode: AddressingMode, registers: Registers, memory: &Memory) -> Effect
     ensures { Gives (perform Instruction.RTI mode registers) memory.now result memory.now }
 {
     let status = pull_from_stack(registers, memory);
@@ -56,8 +55,14 @@ pub fn return_from_interrupt(mode: AddressingMode, registers: Registers, memory:
 }
 
 // The way into an interrupt: a return address and a status byte are pushed, I is set, and the counter goes through a vector.
-fn enter(back: Address, byte: u8, vector: u16, registers: Registers, memory: &mut [u8]) -> Registers
-    requires { (length memory.old ≡ full_memory) × (vector + 1 < 65536) }
+fn enter(
+    back: Address,
+    byte: u8,
+    vector: u16,
+    registers: Registers,
+    memory: &mut Memory,
+) -> Registers
+    requires { vector + 1 < 65536 }
     ensures { Gives (enter back.0 byte vector registers) memory.old result memory.new }
 {
     let addressed = push_address(registers, memory, back);
@@ -68,8 +73,8 @@ fn enter(back: Address, byte: u8, vector: u16, registers: Registers, memory: &mu
 }
 
 // A line is served: the way back is to the instruction that was not yet begun, and bit 4 of the status byte is clear.
-pub fn serve(vector: u16, registers: Registers, memory: &mut [u8]) -> Registers
-    requires { (length memory.old ≡ full_memory) × (vector + 1 < 65536) }
+pub fn serve(vector: u16, registers: Registers, memory: &mut Memory) -> Registers
+    requires { vector + 1 < 65536 }
     ensures { Gives (served vector registers) memory.old result memory.new }
 {
     enter(
@@ -82,8 +87,7 @@ pub fn serve(vector: u16, registers: Registers, memory: &mut [u8]) -> Registers
 }
 
 // BRK: the way back is past its second byte.
-pub fn force_break(mode: AddressingMode, registers: Registers, memory: &mut [u8]) -> Effect
-    requires { length memory.old ≡ full_memory }
+pub fn force_break(mode: AddressingMode, registers: Registers, memory: &mut Memory) -> Effect
     ensures { Gives (perform Instruction.BRK mode registers) memory.old result memory.new }
 {
     let after = enter(
@@ -97,8 +101,7 @@ pub fn force_break(mode: AddressingMode, registers: Registers, memory: &mut [u8]
 }
 
 // PHA.
-pub fn push_accumulator(mode: AddressingMode, registers: Registers, memory: &mut [u8]) -> Effect
-    requires { length memory.old ≡ full_memory }
+pub fn push_accumulator(mode: AddressingMode, registers: Registers, memory: &mut Memory) -> Effect
     ensures { Gives (perform Instruction.PHA mode registers) memory.old result memory.new }
 {
     let after = advanced(
@@ -109,8 +112,7 @@ pub fn push_accumulator(mode: AddressingMode, registers: Registers, memory: &mut
 }
 
 // PHP.
-pub fn push_status(mode: AddressingMode, registers: Registers, memory: &mut [u8]) -> Effect
-    requires { length memory.old ≡ full_memory }
+pub fn push_status(mode: AddressingMode, registers: Registers, memory: &mut Memory) -> Effect
     ensures { Gives (perform Instruction.PHP mode registers) memory.old result memory.new }
 {
     let after = advanced(
@@ -121,8 +123,8 @@ pub fn push_status(mode: AddressingMode, registers: Registers, memory: &mut [u8]
 }
 
 // PLA: N and Z show the byte.
-pub fn pull_accumulator(mode: AddressingMode, registers: Registers, memory: &[u8]) -> Effect
-    requires { length memory.now ≡ full_memory }
+#[tactic(auto, using(manual::proofs::Lemmas::InstructionLaws::pull_accumulator_gives))]
+pub fn pull_accumulator(mode: AddressingMode, registers: Registers, memory: &Memory) -> Effect
     ensures { Gives (perform Instruction.PLA mode registers) memory.now result memory.now }
 {
     let pulled = pull_from_stack(registers, memory);
@@ -131,8 +133,8 @@ pub fn pull_accumulator(mode: AddressingMode, registers: Registers, memory: &[u8
 }
 
 // PLP.
-pub fn pull_status(mode: AddressingMode, registers: Registers, memory: &[u8]) -> Effect
-    requires { length memory.now ≡ full_memory }
+#[tactic(auto, using(manual::proofs::Lemmas::InstructionLaws::pull_status_gives))]
+pub fn pull_status(mode: AddressingMode, registers: Registers, memory: &Memory) -> Effect
     ensures { Gives (perform Instruction.PLP mode registers) memory.now result memory.now }
 {
     let pulled = pull_from_stack(registers, memory);

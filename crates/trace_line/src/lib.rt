@@ -9,11 +9,14 @@
 ghost use Rattle.std.specs.Prelude.{◌+◌, ◌≤◌, ◌≡◌, drop};
 ghost use Rattle.text_writing.specs.Written.{Writes};
 ghost use Rattle.trace_line.specs.Lines.{line_text, longest_line};
+ghost use Rattle.text_reading.specs.Numbers.{nowhere};
+ghost use Rattle.text_reading.specs.Found.{found};
+ghost use Rattle.trace_line.specs.Inner.Found.{fields_found};
 ghost use Rattle.trace_line.specs.Fields.{cycles_of, field_at, fields_of, state_of, spelled_by, line_of, line_from};
 
 use manual::Machine;
 use registers::{Registers, Status};
-use text_reading::{Byte, Count, NOWHERE, read_byte, read_count, read_mark, read_word, rest};
+use text_reading::{Reading, read_byte, read_count, read_mark, read_word, rest};
 use text_writing::Writer;
 use trace_fields::put_machine;
 
@@ -37,45 +40,37 @@ pub struct Spelled {
     pub next: usize,
 }
 
-#[derive(Clone, Copy)]
-pub enum Line {
-    State(Spelled),
-    Malformed,
-}
-
 // If a text begins with 0, that is the whole number: so there is no leading zero.
-fn read_cycles(text: &[u8]) -> Count
-    ensures { result ≡ cycles_of text.now }
+fn read_cycles(text: &[u8]) -> Option<Reading<u64>>
+    ensures { result ≡ found (cycles_of text.now) }
 {
-    let zero = read_mark(text, 0, b'0');
-    if zero == NOWHERE {
-        return read_count(text, 0);
-    }
-    Count {
-        value: 0,
-        next: zero,
+    match read_mark(text, 0, b'0') {
+        Some(next) => Some(Reading { value: 0, next }),
+        None => read_count(text, 0),
     }
 }
 
 // A space and a byte.
-fn read_field(text: &[u8], at: usize) -> Byte
-    ensures { result ≡ field_at text.now at }
+fn read_field(text: &[u8], at: usize) -> Option<Reading<u8>>
+    ensures { result ≡ found (field_at text.now at) }
 {
-    read_byte(text, read_mark(text, at, b' '))
+    read_byte(text, read_mark(text, at, b' ')?)
 }
 
-// The fields with which a text begins; if they are not there, or LF does not follow, the next place is NOWHERE.
-fn read_fields(text: &[u8]) -> Fields
-    ensures { result ≡ fields_of text.now }
+// The fields with which a text begins, if they are there, and LF follows.
+fn read_fields(text: &[u8]) -> Option<Fields>
+    ensures { result ≡ fields_found (fields_of text.now) }
 {
-    let cycles = read_cycles(text);
-    let counter = read_word(text, read_mark(text, cycles.next, b' '));
-    let accumulator = read_field(text, counter.next);
-    let x = read_field(text, accumulator.next);
-    let y = read_field(text, x.next);
-    let stack = read_field(text, y.next);
-    let status = read_field(text, stack.next);
-    Fields {
+    let cycles = read_cycles(text)?;
+    let space = read_mark(text, cycles.next, b' ')?;
+    let counter = read_word(text, space)?;
+    let accumulator = read_field(text, counter.next)?;
+    let x = read_field(text, accumulator.next)?;
+    let y = read_field(text, x.next)?;
+    let stack = read_field(text, y.next)?;
+    let status = read_field(text, stack.next)?;
+    let next = read_mark(text, status.next, b'\n')?;
+    Some(Fields {
         cycles: cycles.value,
         counter: counter.value,
         accumulator: accumulator.value,
@@ -83,8 +78,8 @@ fn read_fields(text: &[u8]) -> Fields
         y: y.value,
         stack: stack.value,
         status: status.value,
-        next: read_mark(text, status.next, b'\n'),
-    }
+        next,
+    })
 }
 
 // The last level of NMI is high: a log is of a run with idle lines.
@@ -103,38 +98,30 @@ fn state_of(fields: Fields) -> Machine
 }
 
 // A status byte is one that PHP pushes if its flags, pushed again, give it back: bits 4 and 5 are set.
-fn spelled_by(fields: Fields) -> Line
+fn spelled_by(fields: Fields) -> Option<Spelled>
+    requires { fields.next ≡ nowhere → ⊥ }
     ensures { result ≡ spelled_by fields }
 {
-    if fields.next == NOWHERE {
-        return Line::Malformed;
-    }
     let machine = state_of(fields);
     if machine.registers.status.pushed() != fields.status {
-        return Line::Malformed;
+        return None;
     }
-    Line::State(Spelled {
-        machine: machine,
+    Some(Spelled {
+        machine,
         next: fields.next,
     })
 }
 
-// The line that stands at a place. It is read from the rest of the text: there the places are small, and none of them
-// can be taken for NOWHERE.
-pub fn read_state(text: &[u8], at: usize) -> Line
+// The line that stands at a place; none if what stands there is malformed. It is read from the rest of the text: there the
+// places are small, and none of them can be taken for the largest usize.
+pub fn read_state(text: &[u8], at: usize) -> Option<Spelled>
     ensures { result ≡ line_from at (line_of (drop at text.now)) }
 {
-    let line = spelled_by(read_fields(rest(text, at)));
-    match line {
-        Line::State(spelled) => {
-            let machine = spelled.machine;
-            Line::State(Spelled {
-                machine: machine,
-                next: at + spelled.next,
-            })
-        }
-        Line::Malformed => Line::Malformed,
-    }
+    let spelled = spelled_by(read_fields(rest(text, at))?)?;
+    Some(Spelled {
+        next: at + spelled.next,
+        ..spelled
+    })
 }
 
 // The most characters that the line of a state has.

@@ -1,5 +1,5 @@
 -- A guarded run on a full memory, for any guards: what it has to do with the run, and with another memory.
-use Rattle.std.specs.Prelude.{◌≡◌, ℕ, zero, suc, ◌+◌, ◌<◌, Bool, true, false, cond, List, [], ◌∷◌, ◌++◌, length, slice_index, slice_set}
+use Rattle.std.specs.Prelude.{◌≡◌, ℕ, zero, suc, ◌+◌, ◌<◌, Bool, true, false, cond, List, [], ◌∷◌, ◌++◌, length, slice_index, slice_set, Option, Some, None}
 use Rattle.std.proofs.Math.Path.{refl, ap}
 use Rattle.std.proofs.Common.{sym, ◌∙◌, subst, inl, inr, true≢false, arith}
 use Rattle.std.proofs.Math.Logic.{⊎_elim}
@@ -20,8 +20,6 @@ use Rattle.manual.proofs.Theorems.Stores.{step_full_stores}
 use Rattle.manual.proofs.Theorems.Sealed.{Differ, Unsealed, agree_set, stores_alike, sealed}
 use Rattle.manual.proofs.Lemmas.StepLaws.{was_made, was_refused, run_more, run_stop, run_end}
 use Rattle.guard_maps.specs.declared.Touch.{Touch}
-use Rattle.guard_maps.specs.declared.Ahead.{Ahead}
-use Rattle.guard_maps.specs.declared.Found.{Found}
 use Rattle.guard_maps.specs.Maps.{first_in, touching, ahead_of}
 use Rattle.guard.specs.declared.Guarded.{Guarded}
 use Rattle.guard.specs.Guarded.{ran, halted, unless, guarded_full}
@@ -33,11 +31,11 @@ Under guards a = guards a ≡ true
 -- ---- lists
 
 module _ (guards : ℕ → Bool) where
-  split : (t : Bool) (a : ℕ) (x : Found) → cond t (Found.At a) x ≡ Found.Nothing → (t ≡ false) × (x ≡ Found.Nothing)
+  split : (t : Bool) (a : ℕ) (x : Option ℕ) → cond t (Some a) x ≡ None → (t ≡ false) × (x ≡ None)
   split true a x e = let z : ◌≡◌ {A = ℕ} 0 1 = cc in absurd (omega arith)
   split false a x e = (refl, e)
 
-  pub nothing_guarded : (l : List ℕ) → first_in guards l ≡ Found.Nothing → Unsealed (Under guards) l
+  pub nothing_guarded : (l : List ℕ) → first_in guards l ≡ None → Unsealed (Under guards) l
   unfolding first_in
   nothing_guarded [] e = λ a i s. i
   nothing_guarded (b ∷ l) e =
@@ -50,18 +48,18 @@ module _ (guards : ℕ → Bool) where
       λ a i. ⊎_elim (λ (e : a ≡ b). u a (inl e)) (λ (j : a ∈ (l ++ r)). both_unsealed l r (λ x y. u x (inr y)) v a j) i
 
 -- what is ahead, taken apart
-pub nothing_ahead : (f g : Found) → touching f g ≡ Ahead.Nothing → (f ≡ Found.Nothing) × (g ≡ Found.Nothing)
-nothing_ahead (Found.At a) g e = let z : ◌≡◌ {A = ℕ} 0 1 = cc in absurd (omega arith)
-nothing_ahead Found.Nothing (Found.At a) e = let z : ◌≡◌ {A = ℕ} 0 1 = cc in absurd (omega arith)
-nothing_ahead Found.Nothing Found.Nothing e = (refl, refl)
+pub nothing_ahead : (f g : Option ℕ) → touching f g ≡ None → (f ≡ None) × (g ≡ None)
+nothing_ahead (Some a) g e = let z : ◌≡◌ {A = ℕ} 0 1 = cc in absurd (omega arith)
+nothing_ahead None (Some a) e = let z : ◌≡◌ {A = ℕ} 0 1 = cc in absurd (omega arith)
+nothing_ahead None None e = (refl, refl)
 
 -- the first guarded address of a list is one of it, and guarded
-pub first_guarded : (guards : ℕ → Bool) (l : List ℕ) (a : ℕ) → first_in guards l ≡ Found.At a → (a ∈ l) × Under guards a
+pub first_guarded : (guards : ℕ → Bool) (l : List ℕ) (a : ℕ) → first_in guards l ≡ Some a → (a ∈ l) × Under guards a
 unfolding first_in
 first_guarded guards [] a e = let z : ◌≡◌ {A = ℕ} 0 1 = cc in absurd (omega arith)
 first_guarded guards (b ∷ l) a e = by_test (guards b) refl e (first_guarded guards l a)
   where
-    by_test : (t : Bool) → guards b ≡ t → cond t (Found.At b) (first_in guards l) ≡ Found.At a → (first_in guards l ≡ Found.At a → (a ∈ l) × Under guards a) → (a ∈ (b ∷ l)) × Under guards a
+    by_test : (t : Bool) → guards b ≡ t → cond t (Some b) (first_in guards l) ≡ Some a → (first_in guards l ≡ Some a → (a ∈ l) × Under guards a) → (a ∈ (b ∷ l)) × Under guards a
     by_test true s f more = let same : a ≡ b = cc in (inl same, rw same s)
     by_test false s f more = let h = more f in (inr h.0, h.1)
 
@@ -70,20 +68,20 @@ abbrev pub Touched : (ℕ → Bool) → (ℕ → Bool) → List ℕ → List ℕ
 Touched guards against l k (Touch.Read a) = (a ∈ l) × Under guards a
 Touched guards against l k (Touch.Store a) = Unsealed (Under guards) l × (a ∈ k) × Under against a
 
-pub touched : (guards against : ℕ → Bool) (l k : List ℕ) (t : Touch) → touching (first_in guards l) (first_in against k) ≡ Ahead.Touches t → Touched guards against l k t
+pub touched : (guards against : ℕ → Bool) (l k : List ℕ) (t : Touch) → touching (first_in guards l) (first_in against k) ≡ Some t → Touched guards against l k t
 touched guards against l k t e = by_found (first_in guards l) (first_in against k) refl refl t e
   where
-    by_found : (f g : Found) → first_in guards l ≡ f → first_in against k ≡ g → (t : Touch) → touching f g ≡ Ahead.Touches t → Touched guards against l k t
-    by_found (Found.At b) g e h (Touch.Read a) z = let same : b ≡ a = cc in first_guarded guards l a (e ∙ ap Found.At same)
-    by_found (Found.At b) g e h (Touch.Store a) z = let y : ◌≡◌ {A = ℕ} 0 1 = cc in absurd (omega arith)
-    by_found Found.Nothing (Found.At b) e h (Touch.Read a) z = let y : ◌≡◌ {A = ℕ} 0 1 = cc in absurd (omega arith)
-    by_found Found.Nothing (Found.At b) e h (Touch.Store a) z =
+    by_found : (f g : Option ℕ) → first_in guards l ≡ f → first_in against k ≡ g → (t : Touch) → touching f g ≡ Some t → Touched guards against l k t
+    by_found (Some b) g e h (Touch.Read a) z = let same : b ≡ a = cc in first_guarded guards l a (e ∙ ap Some same)
+    by_found (Some b) g e h (Touch.Store a) z = let y : ◌≡◌ {A = ℕ} 0 1 = cc in absurd (omega arith)
+    by_found None (Some b) e h (Touch.Read a) z = let y : ◌≡◌ {A = ℕ} 0 1 = cc in absurd (omega arith)
+    by_found None (Some b) e h (Touch.Store a) z =
         let same : b ≡ a = cc in
-        let there = first_guarded against k a (h ∙ ap Found.At same) in
+        let there = first_guarded against k a (h ∙ ap Some same) in
         (nothing_guarded guards l e, there.0, there.1)
-    by_found Found.Nothing Found.Nothing e h t z = let y : ◌≡◌ {A = ℕ} 0 1 = cc in absurd (omega arith)
+    by_found None None e h t z = let y : ◌≡◌ {A = ℕ} 0 1 = cc in absurd (omega arith)
 
-pub would_touch : (guards against : ℕ → Bool) (lines : Lines) (s : Machine) (m : List ℕ) (t : Touch) → ahead_of guards against lines s m ≡ Ahead.Touches t
+pub would_touch : (guards against : ℕ → Bool) (lines : Lines) (s : Machine) (m : List ℕ) (t : Touch) → ahead_of guards against lines s m ≡ Some t
     → Touched guards against (listed_step_full lines s m) (stored_by_step_full lines s m) t
 would_touch guards against lines s m t e = touched guards against (listed_step_full lines s m) (stored_by_step_full lines s m) t e
 
@@ -102,7 +100,7 @@ module _ (guards against : ℕ → Bool) (lines : Lines) where
     pub count : j ≡ k + steps
     pub gives : Gives (run_full steps k lines s) m (ended Made j q) e
     pub clean : Clean steps k s m
-    pub ahead : ahead_of guards against lines q e ≡ Ahead.Touches t
+    pub ahead : ahead_of guards against lines q e ≡ Some t
 
   abbrev pub Right : ℕ → ℕ → Machine → List ℕ → Guarded × List ℕ → Type 0
   Right n k s m (Guarded.Ran q, e) = Gives (run_full n k lines s) m q e × Clean n k s m
@@ -122,7 +120,7 @@ module _ (guards against : ℕ → Bool) (lines : Lines) where
   abbrev Passes : Machine → List ℕ → Type 0
   Passes s m = Unsealed (Under guards) (listed_step_full lines s m) × Unsealed (Under against) (stored_by_step_full lines s m)
 
-  passes : (s : Machine) (m : List ℕ) → ahead_of guards against lines s m ≡ Ahead.Nothing → Passes s m
+  passes : (s : Machine) (m : List ℕ) → ahead_of guards against lines s m ≡ None → Passes s m
   passes s m e =
       let none = nothing_ahead (first_in guards (listed_step_full lines s m)) (first_in against (stored_by_step_full lines s m)) e in
       (nothing_guarded guards (listed_step_full lines s m) none.0, nothing_guarded against (stored_by_step_full lines s m) none.1)
@@ -185,13 +183,13 @@ module _ (guards against : ℕ → Bool) (lines : Lines) where
     by_answer true e h = after_step e (guarded_full guards against n (k + 1) lines (after s m) (left s m)) h
     by_answer false e h = (run_stop lines s m _ _ refl n k (was_refused (reason_of s m) e), only n k s m p e)
 
-  by_ahead : (n k : ℕ) (s : Machine) (m : List ℕ) (x : Ahead) → ahead_of guards against lines s m ≡ x
+  by_ahead : (n k : ℕ) (s : Machine) (m : List ℕ) (x : Option Touch) → ahead_of guards against lines s m ≡ x
       → Right n (k + 1) (after s m) (left s m) (guarded_full guards against n (k + 1) lines (after s m) (left s m))
       → Right (suc n) k s m
       (unless x (λ t. (halted t k s, m))
       (cond (is_made (reason_of s m)) (guarded_full guards against n (k + 1) lines (after s m) (left s m)) (ran (reason_of s m) k (after s m), left s m)))
-  by_ahead n k s m Ahead.Nothing e h = by_answer n k s m (passes s m e) (is_made (reason_of s m)) refl h
-  by_ahead n k s m (Ahead.Touches t) e h = record {
+  by_ahead n k s m None e h = by_answer n k s m (passes s m e) (is_made (reason_of s m)) refl h
+  by_ahead n k s m (Some t) e h = record {
     steps = 0;
     fewer = omega arith;
     count = omega arith;
@@ -208,7 +206,7 @@ module _ (guards against : ℕ → Bool) (lines : Lines) where
 
   -- ---- two memories
 
-  chosen : (t : Bool) (a : ℕ) (x y : Found) → (t ≡ false → x ≡ y) → cond t (Found.At a) x ≡ cond t (Found.At a) y
+  chosen : (t : Bool) (a : ℕ) (x y : Option ℕ) → (t ≡ false → x ≡ y) → cond t (Some a) x ≡ cond t (Some a) y
   chosen true a x y h = refl
   chosen false a x y h = h refl
 
@@ -240,9 +238,9 @@ module _ (guards against : ℕ → Bool) (lines : Lines) where
         ∙ stores_alike (Under guards) (step_full lines s) m₁ m₂ d (subst (Unsealed (Under guards)) (sym (step_full_reads lines s m₁)) u)
         ∙ step_full_stores lines s m₂
 
-    by_read : (f f' : Found) (g g' : Found) → f ≡ f' → (f ≡ Found.Nothing → g ≡ g') → touching f g ≡ touching f' g'
-    by_read (Found.At a) f' g g' e h = ap (λ (x : Found). touching x g') e
-    by_read Found.Nothing f' g g' e h = ap (touching Found.Nothing) (h refl) ∙ ap (λ (x : Found). touching x g') e
+    by_read : (f f' : Option ℕ) (g g' : Option ℕ) → f ≡ f' → (f ≡ None → g ≡ g') → touching f g ≡ touching f' g'
+    by_read (Some a) f' g g' e h = ap (λ (x : Option ℕ). touching x g') e
+    by_read None f' g g' e h = ap (touching None) (h refl) ∙ ap (λ (x : Option ℕ). touching x g') e
 
     -- so what is ahead of a step does not depend on what is guarded against reads
     pub same_ahead : ahead_of guards against lines s m₁ ≡ ahead_of guards against lines s m₂
@@ -277,17 +275,17 @@ module _ (guards against : ℕ → Bool) (lines : Lines) where
       subst (λ (q : Stepped). Same (goes n k q₁ m₁) (goes n k q m₂)) e
       (alike Same (is_made q₁.reason) _ _ _ _ (again q₁.machine m₁ m₂ d) (refl, d))
 
-  by_one : (x : Ahead) (k : ℕ) (s : Machine) (m₁ m₂ : List ℕ) (w₁ w₂ : Guarded × List ℕ) → Differ (Under guards) m₁ m₂
-      → (x ≡ Ahead.Nothing → Same w₁ w₂)
+  by_one : (x : Option Touch) (k : ℕ) (s : Machine) (m₁ m₂ : List ℕ) (w₁ w₂ : Guarded × List ℕ) → Differ (Under guards) m₁ m₂
+      → (x ≡ None → Same w₁ w₂)
       → Same (unless x (λ t. (halted t k s, m₁)) w₁) (unless x (λ t. (halted t k s, m₂)) w₂)
-  by_one Ahead.Nothing k s m₁ m₂ w₁ w₂ d h = h refl
-  by_one (Ahead.Touches t) k s m₁ m₂ w₁ w₂ d h = (refl, d)
+  by_one None k s m₁ m₂ w₁ w₂ d h = h refl
+  by_one (Some t) k s m₁ m₂ w₁ w₂ d h = (refl, d)
 
-  by_both : (x₁ x₂ : Ahead) (k : ℕ) (s : Machine) (m₁ m₂ : List ℕ) (w₁ w₂ : Guarded × List ℕ) → x₁ ≡ x₂ → Differ (Under guards) m₁ m₂
-      → (x₁ ≡ Ahead.Nothing → Same w₁ w₂)
+  by_both : (x₁ x₂ : Option Touch) (k : ℕ) (s : Machine) (m₁ m₂ : List ℕ) (w₁ w₂ : Guarded × List ℕ) → x₁ ≡ x₂ → Differ (Under guards) m₁ m₂
+      → (x₁ ≡ None → Same w₁ w₂)
       → Same (unless x₁ (λ t. (halted t k s, m₁)) w₁) (unless x₂ (λ t. (halted t k s, m₂)) w₂)
   by_both x₁ x₂ k s m₁ m₂ w₁ w₂ e d h =
-      subst (λ (x : Ahead). Same (unless x₁ (λ t. (halted t k s, m₁)) w₁) (unless x (λ t. (halted t k s, m₂)) w₂)) e
+      subst (λ (x : Option Touch). Same (unless x₁ (λ t. (halted t k s, m₁)) w₁) (unless x (λ t. (halted t k s, m₂)) w₂)) e
       (by_one x₁ k s m₁ m₂ w₁ w₂ d h)
 
   -- Two full memories that differ only at addresses guarded against reads give one answer, and memories that differ only there.

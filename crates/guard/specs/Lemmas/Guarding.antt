@@ -1,5 +1,5 @@
 -- Laws that the code's proofs cite.
-use Rattle.std.specs.Prelude.{◌≡◌, ℕ, zero, suc, ◌+◌, ◌-◌, ◌<◌, ◌≤◌, Bool, true, false, cond, not, ◌&&◌, List, ◌≢◌, Some, None}
+use Rattle.std.specs.Prelude.{◌≡◌, ℕ, zero, suc, ◌+◌, ◌-◌, ◌<◌, ◌≤◌, Bool, true, false, cond, not, ◌&&◌, List, ◌≢◌, Some, None, Option}
 use Rattle.std.proofs.Math.Path.{refl}
 use Rattle.std.proofs.Common.{ap, ap₂, sym, ◌∙◌, subst, true≢false, inl, inr, eq-eqb, ne_eqb}
 use native.Mathlib.Omega.{arith}
@@ -18,7 +18,6 @@ use Rattle.footprint.specs.Lemmas.Footprints.{late_list, due_list, due_stores}
 use Rattle.cpu.specs.Inner.Turning.{raised, stretch, Calm, going}
 use Rattle.cpu.specs.Lemmas.Turning.{going_fits, going_most, some}
 use Rattle.guard_maps.specs.declared.Touch.{Touch}
-use Rattle.guard_maps.specs.declared.Ahead.{Ahead}
 use Rattle.guard_maps.specs.Maps.{first_in, touching, ahead_of}
 use Rattle.guard.specs.declared.Guarded.{Guarded}
 use Rattle.guard.specs.declared.Halt.{Halt}
@@ -30,14 +29,14 @@ use Rattle.guard_near.specs.Inner.Near.{Untouched}
 -- nothing, if the byte at the counter touches nothing and no line is due
 pub none_ahead : (reads stores : ℕ → Bool) (lines : Lines) (s : Machine) (m : List ℕ) → s.cycles ≤ highest_count → due lines s ≡ None
     → Untouched reads stores s.registers m
-    → ahead_of reads stores lines s m ≡ Ahead.Nothing
+    → ahead_of reads stores lines s m ≡ None
 none_ahead reads stores lines s m room is (r, w) =
     ap₂ touching (ap (first_in reads) (due_list lines s m None room is) ∙ r) (ap (first_in stores) (due_stores lines s m None room is) ∙ w)
 
 -- ---- the next step
 
 module _ (reads stores : ℕ → Bool) (n k : ℕ) (lines : Lines) (s : Machine) (m : List ℕ) where
-  pub guarded_halts : (t : Touch) → ahead_of reads stores lines s m ≡ Ahead.Touches t → guarded_full reads stores (suc n) k lines s m ≡ (halted t k s, m)
+  pub guarded_halts : (t : Touch) → ahead_of reads stores lines s m ≡ Some t → guarded_full reads stores (suc n) k lines s m ≡ (halted t k s, m)
   unfolding guarded_full
   guarded_halts t e = rw e
 
@@ -45,7 +44,7 @@ module _ (reads stores : ℕ → Bool) (n k : ℕ) (lines : Lines) (s : Machine)
   abbrev goes : Stepped × List ℕ → Guarded × List ℕ
   goes w = cond (is_made w.0.reason) (guarded_full reads stores n (k + 1) lines w.0.machine w.1) (ran w.0.reason k w.0.machine, w.1)
 
-  module _ (q : Stepped) (m' : List ℕ) (e : ahead_of reads stores lines s m ≡ Ahead.Nothing) (g : Gives (step_full lines s) m q m') where
+  module _ (q : Stepped) (m' : List ℕ) (e : ahead_of reads stores lines s m ≡ None) (g : Gives (step_full lines s) m q m') where
     steps_on : guarded_full reads stores (suc n) k lines s m ≡ goes (q, m')
     unfolding guarded_full
     steps_on = rw e (ap goes g)
@@ -123,15 +122,15 @@ module _ (reads stores : ℕ → Bool) (lines : Lines) where
   onward n (Guarded.Halted h, m) = (Guarded.Halted h, m)
 
   -- what a step gives and k steps after it, by what is ahead and its answer
-  abbrev then : ℕ → ℕ → Machine → List ℕ → Stepped → List ℕ → Ahead → Bool → Guarded × List ℕ
+  abbrev then : ℕ → ℕ → Machine → List ℕ → Stepped → List ℕ → Option Touch → Bool → Guarded × List ℕ
   then j k s m q e x t = unless x (λ z. (halted z k s, m)) (cond t (guarded_full reads stores j (k + 1) lines q.machine e) (ran q.reason k q.machine, e))
 
-  then_onward : (j n k : ℕ) (s : Machine) (m : List ℕ) (q : Stepped) (e : List ℕ) (x : Ahead) (t : Bool) → is_made q.reason ≡ t
+  then_onward : (j n k : ℕ) (s : Machine) (m : List ℕ) (q : Stepped) (e : List ℕ) (x : Option Touch) (t : Bool) → is_made q.reason ≡ t
       → guarded_full reads stores (j + n) (k + 1) lines q.machine e ≡ onward n (guarded_full reads stores j (k + 1) lines q.machine e)
       → then (j + n) k s m q e x t ≡ onward n (then j k s m q e x t)
-  then_onward j n k s m q e (Ahead.Touches t') t is h = refl
-  then_onward j n k s m q e Ahead.Nothing true is h = h
-  then_onward j n k s m q e Ahead.Nothing false is h = rw is
+  then_onward j n k s m q e (Some t') t is h = refl
+  then_onward j n k s m q e None true is h = h
+  then_onward j n k s m q e None false is h = rw is
 
   pub guarded_onward : (j n k : ℕ) (s : Machine) (m : List ℕ) → guarded_full reads stores (j + n) k lines s m ≡ onward n (guarded_full reads stores j k lines s m)
   unfolding guarded_full
@@ -146,12 +145,12 @@ module _ (reads stores : ℕ → Bool) (lines : Lines) where
   Counted k (Guarded.Ran q, m) = is_made q.reason ≡ true → q.steps ≡ k
   Counted k (Guarded.Halted h, m) = Unit {0}
 
-  then_counted : (j k i : ℕ) (s : Machine) (m : List ℕ) (q : Stepped) (e : List ℕ) (x : Ahead) (t : Bool) → is_made q.reason ≡ t
+  then_counted : (j k i : ℕ) (s : Machine) (m : List ℕ) (q : Stepped) (e : List ℕ) (x : Option Touch) (t : Bool) → is_made q.reason ≡ t
       → Counted i (guarded_full reads stores j (k + 1) lines q.machine e)
       → Counted i (then j k s m q e x t)
-  then_counted j k i s m q e (Ahead.Touches t') t is h = tt
-  then_counted j k i s m q e Ahead.Nothing true is h = h
-  then_counted j k i s m q e Ahead.Nothing false is h = λ f. absurd (true≢false (sym f ∙ is))
+  then_counted j k i s m q e (Some t') t is h = tt
+  then_counted j k i s m q e None true is h = h
+  then_counted j k i s m q e None false is h = λ f. absurd (true≢false (sym f ∙ is))
 
   pub guarded_counted : (j k : ℕ) (s : Machine) (m : List ℕ) → Counted (k + j) (guarded_full reads stores j k lines s m)
   unfolding guarded_full

@@ -1,6 +1,6 @@
 -- What the promise of `guarded_run` is worth. `guards` and `against` are any tests of addresses, the maps of the two kinds among them: what is
 -- guarded against reads, and what is guarded against stores.
-use Rattle.std.specs.Prelude.{◌≡◌, ℕ, ◌<◌, Bool, true, false, cond, List, length, ◌==◌, nat_eq}
+use Rattle.std.specs.Prelude.{◌≡◌, ℕ, ◌<◌, Bool, true, false, cond, List, length, ◌==◌, nat_eq, Some}
 use Rattle.std.proofs.Math.Path.{refl, sym, subst}
 use Rattle.std.proofs.Common.{ap, ◌∙◌, arith, eqb-true, eq-eqb}
 use Rattle.manual.specs.declared.Lines.{Lines}
@@ -17,7 +17,6 @@ use Rattle.manual.proofs.Theorems.Reads.{step_full_reads}
 use Rattle.manual.proofs.Theorems.Stores.{step_full_stores}
 use Rattle.manual.proofs.Theorems.Sealed.{Differ, Unsealed, Kept, long_run_sealed}
 use Rattle.guard_maps.specs.declared.Touch.{Touch}
-use Rattle.guard_maps.specs.declared.Ahead.{Ahead}
 use Rattle.guard_maps.specs.Maps.{ahead_of}
 use Rattle.guard.specs.declared.Guarded.{Guarded}
 use Rattle.guard.specs.Guarded.{ran, halted, guarded_full, guarded}
@@ -42,7 +41,7 @@ module _ (guards against : ℕ → Bool) (size bound : ℕ) (lines : Lines) (s :
     pub fewer : j < bound
     pub gives : Gives (long_run size j lines s) m (ended Made j t) e
     pub untouching : Untouching j
-    pub ahead : ahead_of guards against lines t e ≡ Ahead.Touches touch
+    pub ahead : ahead_of guards against lines t e ≡ Some touch
     pub would : Would touch t e
 
   abbrev Meant : Guarded × List ℕ → Type 0
@@ -63,7 +62,7 @@ module _ (guards against : ℕ → Bool) (size bound : ℕ) (lines : Lines) (s :
     unfolding step
     same_step t = rw (eq-eqb size full_memory f)
 
-    would_by : (touch : Touch) (t : Machine) (e : List ℕ) → ahead_of guards against lines t e ≡ Ahead.Touches touch → Would touch t e
+    would_by : (touch : Touch) (t : Machine) (e : List ℕ) → ahead_of guards against lines t e ≡ Some touch → Would touch t e
     would_by (Touch.Read a) t e h = rw (same_step t, step_full_reads lines t e) (would_touch guards against lines t e (Touch.Read a) h)
     would_by (Touch.Store a) t e h = rw (same_step t, step_full_reads lines t e, step_full_stores lines t e) (would_touch guards against lines t e (Touch.Store a) h)
 

@@ -21,42 +21,42 @@ use Rattle.manual.specs.Addressing.{operand, target}
 use Rattle.manual.specs.ReadList.{addressed, operands, pointers, reached, listed, listed_entry}
 use Rattle.manual.specs.StoreList.{aim, stored_to, stored_by_entry}
 use Rattle.footprint.specs.Lemmas.Arms.{Arm, codes_at, given_at, Rest, arm_right, last_right}
-use Rattle.guard_maps.specs.declared.Found.{Found}
 use Rattle.guard_maps.specs.Maps.{in_map, first_in}
+use Rattle.guard_near.specs.declared.Region.{Region}
 use Rattle.guard_maps.specs.Lemmas.Maps.{none_in}
-use Rattle.guard_near.specs.Inner.Near.{Free, AllFree, LowFree, CodeFree, Untouched, around_stack, regions, region_by, region_to, region_for, region_of_entry, region_of}
+use Rattle.guard_near.specs.Inner.Near.{Free, AllFree, LowFree, CodeFree, Untouched, around_stack, RegionFree, region_to, region_for, region_of_entry, region_of}
 
 -- ---- the arms of the code's match
 
-abbrev pub region_arms : List Arm
+abbrev pub region_arms : List (Arm Region)
 region_arms =
-    (0x00 ∷ 0x6C ∷ [], 10)
-    ∷ (0x08 ∷ 0x20 ∷ 0x28 ∷ 0x40 ∷ 0x48 ∷ 0x60 ∷ 0x68 ∷ [], 9)
-    ∷ (0x01 ∷ 0x21 ∷ 0x41 ∷ 0x61 ∷ 0x81 ∷ 0xA1 ∷ 0xC1 ∷ 0xE1 ∷ [], 7)
-    ∷ (0x11 ∷ 0x31 ∷ 0x51 ∷ 0x71 ∷ 0x91 ∷ 0xB1 ∷ 0xD1 ∷ 0xF1 ∷ [], 8)
-    ∷ (0x24 ∷ 0x84 ∷ 0xA4 ∷ 0xC4 ∷ 0xE4 ∷ [], 1)
-    ∷ (0x94 ∷ 0xB4 ∷ [], 2)
-    ∷ (0x05 ∷ 0x25 ∷ 0x45 ∷ 0x65 ∷ 0x85 ∷ 0xA5 ∷ 0xC5 ∷ 0xE5 ∷ [], 1)
-    ∷ (0x15 ∷ 0x35 ∷ 0x55 ∷ 0x75 ∷ 0x95 ∷ 0xB5 ∷ 0xD5 ∷ 0xF5 ∷ [], 2)
-    ∷ (0x06 ∷ 0x26 ∷ 0x46 ∷ 0x66 ∷ 0x86 ∷ 0xA6 ∷ 0xC6 ∷ 0xE6 ∷ [], 1)
-    ∷ (0x16 ∷ 0x36 ∷ 0x56 ∷ 0x76 ∷ 0xD6 ∷ 0xF6 ∷ [], 2)
-    ∷ (0x96 ∷ 0xB6 ∷ [], 3)
-    ∷ (0x19 ∷ 0x39 ∷ 0x59 ∷ 0x79 ∷ 0x99 ∷ 0xB9 ∷ 0xBE ∷ 0xD9 ∷ 0xF9 ∷ [], 6)
-    ∷ (0x2C ∷ 0x4C ∷ 0x8C ∷ 0xAC ∷ 0xCC ∷ 0xEC ∷ [], 4)
-    ∷ (0x0D ∷ 0x2D ∷ 0x4D ∷ 0x6D ∷ 0x8D ∷ 0xAD ∷ 0xCD ∷ 0xED ∷ [], 4)
-    ∷ (0x0E ∷ 0x2E ∷ 0x4E ∷ 0x6E ∷ 0x8E ∷ 0xAE ∷ 0xCE ∷ 0xEE ∷ [], 4)
-    ∷ (0x1D ∷ 0x3D ∷ 0x5D ∷ 0x7D ∷ 0x9D ∷ 0xBD ∷ 0xDD ∷ 0xFD ∷ [], 5)
-    ∷ (0x1E ∷ 0x3E ∷ 0x5E ∷ 0x7E ∷ 0xBC ∷ 0xDE ∷ 0xFE ∷ [], 5)
+    (0x00 ∷ 0x6C ∷ [], Region.Anywhere)
+    ∷ (0x08 ∷ 0x20 ∷ 0x28 ∷ 0x40 ∷ 0x48 ∷ 0x60 ∷ 0x68 ∷ [], Region.Stack)
+    ∷ (0x01 ∷ 0x21 ∷ 0x41 ∷ 0x61 ∷ 0x81 ∷ 0xA1 ∷ 0xC1 ∷ 0xE1 ∷ [], Region.IndexedIndirectX)
+    ∷ (0x11 ∷ 0x31 ∷ 0x51 ∷ 0x71 ∷ 0x91 ∷ 0xB1 ∷ 0xD1 ∷ 0xF1 ∷ [], Region.IndirectIndexedY)
+    ∷ (0x24 ∷ 0x84 ∷ 0xA4 ∷ 0xC4 ∷ 0xE4 ∷ [], Region.ZeroPage)
+    ∷ (0x94 ∷ 0xB4 ∷ [], Region.ZeroPageX)
+    ∷ (0x05 ∷ 0x25 ∷ 0x45 ∷ 0x65 ∷ 0x85 ∷ 0xA5 ∷ 0xC5 ∷ 0xE5 ∷ [], Region.ZeroPage)
+    ∷ (0x15 ∷ 0x35 ∷ 0x55 ∷ 0x75 ∷ 0x95 ∷ 0xB5 ∷ 0xD5 ∷ 0xF5 ∷ [], Region.ZeroPageX)
+    ∷ (0x06 ∷ 0x26 ∷ 0x46 ∷ 0x66 ∷ 0x86 ∷ 0xA6 ∷ 0xC6 ∷ 0xE6 ∷ [], Region.ZeroPage)
+    ∷ (0x16 ∷ 0x36 ∷ 0x56 ∷ 0x76 ∷ 0xD6 ∷ 0xF6 ∷ [], Region.ZeroPageX)
+    ∷ (0x96 ∷ 0xB6 ∷ [], Region.ZeroPageY)
+    ∷ (0x19 ∷ 0x39 ∷ 0x59 ∷ 0x79 ∷ 0x99 ∷ 0xB9 ∷ 0xBE ∷ 0xD9 ∷ 0xF9 ∷ [], Region.AbsoluteY)
+    ∷ (0x2C ∷ 0x4C ∷ 0x8C ∷ 0xAC ∷ 0xCC ∷ 0xEC ∷ [], Region.Absolute)
+    ∷ (0x0D ∷ 0x2D ∷ 0x4D ∷ 0x6D ∷ 0x8D ∷ 0xAD ∷ 0xCD ∷ 0xED ∷ [], Region.Absolute)
+    ∷ (0x0E ∷ 0x2E ∷ 0x4E ∷ 0x6E ∷ 0x8E ∷ 0xAE ∷ 0xCE ∷ 0xEE ∷ [], Region.Absolute)
+    ∷ (0x1D ∷ 0x3D ∷ 0x5D ∷ 0x7D ∷ 0x9D ∷ 0xBD ∷ 0xDD ∷ 0xFD ∷ [], Region.AbsoluteX)
+    ∷ (0x1E ∷ 0x3E ∷ 0x5E ∷ 0x7E ∷ 0xBC ∷ 0xDE ∷ 0xFE ∷ [], Region.AbsoluteX)
     ∷ []
 
 -- an opcode of an arm, and one of none
-pub region_arm : (i opcode : ℕ) → OneOf (codes_at region_arms i) opcode → given_at region_arms i ≡ region_of opcode
+pub region_arm : (i opcode : ℕ) → OneOf (codes_at region_arms i) opcode → given_at Region.Nowhere region_arms i ≡ region_of opcode
 unfolding decoded rows
-region_arm = arm_right (λ n. n) region_of region_arms refl
+region_arm = arm_right (λ n. n) region_of Region.Nowhere region_arms refl
 
-pub region_none : (opcode : ℕ) → opcode < 256 → Rest opcode region_arms (Unit {0}) → 0 ≡ region_of opcode
+pub region_none : (opcode : ℕ) → opcode < 256 → Rest opcode region_arms (Unit {0}) → Region.Nowhere ≡ region_of opcode
 unfolding decoded rows
-region_none = last_right 0 region_of region_arms 256 refl
+region_none = last_right Region.Nowhere region_of region_arms 256 refl
 
 -- ---- the maps, eight addresses a byte
 
@@ -151,120 +151,114 @@ code_free map counter next word e h =
         let same : address_of (counter + 1) / 8 ≡ address_of (counter + 2) / 8 = omega (arith, n, word) in
         none_in map (address_of (counter + 1)) (ap (λ (i : ℕ). slice_index map i) same ∙ l)
 
--- ---- a region by its number
-
-pub in_region : (reads stores : ℕ → Bool) (r : Registers) (m : List ℕ) (n : ℕ) {region : ℕ} → region ≡ n → n < 10
-    → AllFree reads stores (region_by n r m) → (region < 10) × AllFree reads stores (region_by region r m)
-in_region reads stores r m n e l f = (omega (arith, e), rw e f)
-
 -- ---- lists
 
 module _ (guards : ℕ → Bool) where
-  pub none_first : first_in guards [] ≡ Found.Nothing
+  pub none_first : first_in guards [] ≡ None
   unfolding first_in
   none_first = refl
 
-  pub not_first : (a : ℕ) (l : List ℕ) → guards a ≡ false → first_in guards l ≡ Found.Nothing → first_in guards (a ∷ l) ≡ Found.Nothing
+  pub not_first : (a : ℕ) (l : List ℕ) → guards a ≡ false → first_in guards l ≡ None → first_in guards (a ∷ l) ≡ None
   unfolding first_in
   not_first a l e f = simp e f
 
 module _ (reads stores : ℕ → Bool) (r : Registers) (m : List ℕ) (code : CodeFree reads r.counter) where
   -- what is read on the way to the byte of a mode, with it and without, and a store to it
   record Reaches (mode : AddressingMode) : Type 0 where
-    with : first_in reads (operands mode r ++ pointers mode r m ++ reached mode r m) ≡ Found.Nothing
-    without : first_in reads (operands mode r ++ pointers mode r m) ≡ Found.Nothing
-    into : addressed mode ≡ true → first_in stores (aim mode r m ∷ []) ≡ Found.Nothing
+    with : first_in reads (operands mode r ++ pointers mode r m ++ reached mode r m) ≡ None
+    without : first_in reads (operands mode r ++ pointers mode r m) ≡ None
+    into : addressed mode ≡ true → first_in stores (aim mode r m ∷ []) ≡ None
 
   -- after the opcode
-  none : first_in reads [] ≡ Found.Nothing
+  none : first_in reads [] ≡ None
   none = none_first reads
 
-  one : (l : List ℕ) → first_in reads l ≡ Found.Nothing → first_in reads (operand r 1 ∷ l) ≡ Found.Nothing
+  one : (l : List ℕ) → first_in reads l ≡ None → first_in reads (operand r 1 ∷ l) ≡ None
   one l = not_first reads (operand r 1) l code.1
 
-  two : (l : List ℕ) → first_in reads l ≡ Found.Nothing → first_in reads (operand r 1 ∷ operand r 2 ∷ l) ≡ Found.Nothing
+  two : (l : List ℕ) → first_in reads l ≡ None → first_in reads (operand r 1 ∷ operand r 2 ∷ l) ≡ None
   two l f = one _ (not_first reads (operand r 2) l code.2 f)
 
   -- an address that is not guarded
-  read : (a : ℕ) (l : List ℕ) → Free reads stores a → first_in reads l ≡ Found.Nothing → first_in reads (a ∷ l) ≡ Found.Nothing
+  read : (a : ℕ) (l : List ℕ) → Free reads stores a → first_in reads l ≡ None → first_in reads (a ∷ l) ≡ None
   read a l free f = not_first reads a l free.0 f
 
-  stored : (a : ℕ) (l : List ℕ) → Free reads stores a → first_in stores l ≡ Found.Nothing → first_in stores (a ∷ l) ≡ Found.Nothing
+  stored : (a : ℕ) (l : List ℕ) → Free reads stores a → first_in stores l ≡ None → first_in stores (a ∷ l) ≡ None
   stored a l free f = not_first stores a l free.1 f
 
-  last : (a : ℕ) → Free reads stores a → first_in stores (a ∷ []) ≡ Found.Nothing
+  last : (a : ℕ) → Free reads stores a → first_in stores (a ∷ []) ≡ None
   last a free = stored a [] free (none_first stores)
 
   unaddressed : {A : Type 0} → false ≡ true → A
   unaddressed e = absurd (true≢false (sym e))
 
-  reach : (mode : AddressingMode) → region_to mode < 10 → AllFree reads stores (region_by (region_to mode) r m) → Reaches mode
-  unfolding region_by regions target
-  reach Accumulator l f = record { with = none; without = none; into = unaddressed }
-  reach Implied l f = record { with = none; without = none; into = unaddressed }
-  reach Immediate l f = record { with = one _ none; without = one _ none; into = unaddressed }
-  reach Relative l f = record { with = one _ none; without = one _ none; into = unaddressed }
-  reach ZeroPage l f = record { with = one _ (read _ _ f.0 none); without = one _ none; into = λ e. last _ f.0 }
-  reach ZeroPageX l f = record { with = one _ (read _ _ f.0 none); without = one _ none; into = λ e. last _ f.0 }
-  reach ZeroPageY l f = record { with = one _ (read _ _ f.0 none); without = one _ none; into = λ e. last _ f.0 }
-  reach Absolute l f = record { with = two _ (read _ _ f.0 none); without = two _ none; into = λ e. last _ f.0 }
-  reach AbsoluteX l f = record { with = two _ (read _ _ f.0 none); without = two _ none; into = λ e. last _ f.0 }
-  reach AbsoluteY l f = record { with = two _ (read _ _ f.0 none); without = two _ none; into = λ e. last _ f.0 }
-  reach BuggyIndirect l f = absurd (omega arith)
-  reach IndexedIndirectX l f =
+  reach : (mode : AddressingMode) → RegionFree reads stores (region_to mode) r m → Reaches mode
+  unfolding RegionFree target
+  reach Accumulator f = record { with = none; without = none; into = unaddressed }
+  reach Implied f = record { with = none; without = none; into = unaddressed }
+  reach Immediate f = record { with = one _ none; without = one _ none; into = unaddressed }
+  reach Relative f = record { with = one _ none; without = one _ none; into = unaddressed }
+  reach ZeroPage f = record { with = one _ (read _ _ f.0 none); without = one _ none; into = λ e. last _ f.0 }
+  reach ZeroPageX f = record { with = one _ (read _ _ f.0 none); without = one _ none; into = λ e. last _ f.0 }
+  reach ZeroPageY f = record { with = one _ (read _ _ f.0 none); without = one _ none; into = λ e. last _ f.0 }
+  reach Absolute f = record { with = two _ (read _ _ f.0 none); without = two _ none; into = λ e. last _ f.0 }
+  reach AbsoluteX f = record { with = two _ (read _ _ f.0 none); without = two _ none; into = λ e. last _ f.0 }
+  reach AbsoluteY f = record { with = two _ (read _ _ f.0 none); without = two _ none; into = λ e. last _ f.0 }
+  reach BuggyIndirect f = absurd f
+  reach IndexedIndirectX f =
       record { with = one _ (read _ _ f.1.0 (read _ _ f.1.1.0 (read _ _ f.0 none))); without = one _ (read _ _ f.1.0 (read _ _ f.1.1.0 none)); into = λ e. last _ f.0 }
-  reach IndirectIndexedY l f =
+  reach IndirectIndexedY f =
       record { with = one _ (read _ _ f.1.0 (read _ _ f.1.1.0 (read _ _ f.0 none))); without = one _ (read _ _ f.1.0 (read _ _ f.1.1.0 none)); into = λ e. last _ f.0 }
 
   -- what an instruction reads after its opcode, and what it stores to
   abbrev Passes : Instruction → AddressingMode → Type 0
-  Passes i mode = (first_in reads (listed i mode r m) ≡ Found.Nothing) × (first_in stores (stored_to i mode r m) ≡ Found.Nothing)
+  Passes i mode = (first_in reads (listed i mode r m) ≡ None) × (first_in stores (stored_to i mode r m) ≡ None)
 
-  store_passes : (k : StoreOperation) (mode : AddressingMode) (t : Bool) → addressed mode ≡ t → cond t (region_to mode) 10 < 10
-      → AllFree reads stores (region_by (cond t (region_to mode) 10) r m) → Passes (Store k) mode
-  store_passes k mode true e l f = let h = reach mode l f in (h.without, h.into e)
-  store_passes k mode false e l f = absurd (omega arith)
+  store_passes : (k : StoreOperation) (mode : AddressingMode) (t : Bool) → addressed mode ≡ t → RegionFree reads stores (cond t (region_to mode) Region.Anywhere) r m → Passes (Store k) mode
+  unfolding RegionFree
+  store_passes k mode true e f = let h = reach mode f in (h.without, h.into e)
+  store_passes k mode false e f = absurd f
 
-  modify_passes : (k : ModifyOperation) (mode : AddressingMode) → region_for (Modify k) mode < 10
-      → AllFree reads stores (region_by (region_for (Modify k) mode) r m) → Passes (Modify k) mode
-  modify_passes k Accumulator l f = (none, none_first stores)
-  modify_passes k Implied l f = (none, none_first stores)
-  modify_passes k Immediate l f = absurd (omega arith)
-  modify_passes k Relative l f = absurd (omega arith)
-  modify_passes k BuggyIndirect l f = absurd (omega arith)
-  modify_passes k ZeroPage l f = let h = reach ZeroPage l f in (h.with, h.into refl)
-  modify_passes k ZeroPageX l f = let h = reach ZeroPageX l f in (h.with, h.into refl)
-  modify_passes k ZeroPageY l f = let h = reach ZeroPageY l f in (h.with, h.into refl)
-  modify_passes k Absolute l f = let h = reach Absolute l f in (h.with, h.into refl)
-  modify_passes k AbsoluteX l f = let h = reach AbsoluteX l f in (h.with, h.into refl)
-  modify_passes k AbsoluteY l f = let h = reach AbsoluteY l f in (h.with, h.into refl)
-  modify_passes k IndexedIndirectX l f = let h = reach IndexedIndirectX l f in (h.with, h.into refl)
-  modify_passes k IndirectIndexedY l f = let h = reach IndirectIndexedY l f in (h.with, h.into refl)
+  modify_passes : (k : ModifyOperation) (mode : AddressingMode) → RegionFree reads stores (region_for (Modify k) mode) r m → Passes (Modify k) mode
+  unfolding RegionFree
+  modify_passes k Accumulator f = (none, none_first stores)
+  modify_passes k Implied f = (none, none_first stores)
+  modify_passes k Immediate f = absurd f
+  modify_passes k Relative f = absurd f
+  modify_passes k BuggyIndirect f = absurd f
+  modify_passes k ZeroPage f = let h = reach ZeroPage f in (h.with, h.into refl)
+  modify_passes k ZeroPageX f = let h = reach ZeroPageX f in (h.with, h.into refl)
+  modify_passes k ZeroPageY f = let h = reach ZeroPageY f in (h.with, h.into refl)
+  modify_passes k Absolute f = let h = reach Absolute f in (h.with, h.into refl)
+  modify_passes k AbsoluteX f = let h = reach AbsoluteX f in (h.with, h.into refl)
+  modify_passes k AbsoluteY f = let h = reach AbsoluteY f in (h.with, h.into refl)
+  modify_passes k IndexedIndirectX f = let h = reach IndexedIndirectX f in (h.with, h.into refl)
+  modify_passes k IndirectIndexedY f = let h = reach IndirectIndexedY f in (h.with, h.into refl)
 
-  passes : (i : Instruction) (mode : AddressingMode) → region_for i mode < 10 → AllFree reads stores (region_by (region_for i mode) r m) → Passes i mode
-  unfolding region_by regions
-  passes (Read k) mode l f = ((reach mode l f).with, none_first stores)
-  passes (Store k) mode l f = store_passes k mode (addressed mode) refl l f
-  passes (Modify k) mode l f = modify_passes k mode l f
-  passes (Branch k) mode l f = ((reach mode l f).without, none_first stores)
-  passes (Internal k) mode l f = (none, none_first stores)
-  passes JMP mode l f = ((reach mode l f).without, none_first stores)
-  passes JSR mode l (below, (under, (here, rest))) = (two _ none, stored _ _ here (last _ under))
-  passes RTS mode l (below, (under, (here, (over, (second, rest))))) = (read _ _ over (read _ _ second none), none_first stores)
-  passes RTI mode l (below, (under, (here, (over, (second, (third, rest)))))) = (read _ _ over (read _ _ second (read _ _ third none)), none_first stores)
-  passes PLA mode l (below, (under, (here, (over, rest)))) = (read _ _ over none, none_first stores)
-  passes PLP mode l (below, (under, (here, (over, rest)))) = (read _ _ over none, none_first stores)
-  passes PHA mode l (below, (under, (here, rest))) = (none, last _ here)
-  passes PHP mode l (below, (under, (here, rest))) = (none, last _ here)
-  passes BRK mode l f = absurd (omega arith)
+  passes : (i : Instruction) (mode : AddressingMode) → RegionFree reads stores (region_for i mode) r m → Passes i mode
+  unfolding RegionFree
+  passes (Read k) mode f = ((reach mode f).with, none_first stores)
+  passes (Store k) mode f = store_passes k mode (addressed mode) refl f
+  passes (Modify k) mode f = modify_passes k mode f
+  passes (Branch k) mode f = ((reach mode f).without, none_first stores)
+  passes (Internal k) mode f = (none, none_first stores)
+  passes JMP mode f = ((reach mode f).without, none_first stores)
+  passes JSR mode (below, (under, (here, rest))) = (two _ none, stored _ _ here (last _ under))
+  passes RTS mode (below, (under, (here, (over, (second, rest))))) = (read _ _ over (read _ _ second none), none_first stores)
+  passes RTI mode (below, (under, (here, (over, (second, (third, rest)))))) = (read _ _ over (read _ _ second (read _ _ third none)), none_first stores)
+  passes PLA mode (below, (under, (here, (over, rest)))) = (read _ _ over none, none_first stores)
+  passes PLP mode (below, (under, (here, (over, rest)))) = (read _ _ over none, none_first stores)
+  passes PHA mode (below, (under, (here, rest))) = (none, last _ here)
+  passes PHP mode (below, (under, (here, rest))) = (none, last _ here)
+  passes BRK mode f = absurd f
 
-  entry_passes : (d : Option Entry) → region_of_entry d < 10 → AllFree reads stores (region_by (region_of_entry d) r m)
-      → (first_in reads (listed_entry d r m) ≡ Found.Nothing) × (first_in stores (stored_by_entry d r m) ≡ Found.Nothing)
-  entry_passes (Some e) l f = passes e.instruction e.mode l f
-  entry_passes None l f = (none, none_first stores)
+  entry_passes : (d : Option Entry) → RegionFree reads stores (region_of_entry d) r m
+      → (first_in reads (listed_entry d r m) ≡ None) × (first_in stores (stored_by_entry d r m) ≡ None)
+  entry_passes (Some e) f = passes e.instruction e.mode f
+  entry_passes None f = (none, none_first stores)
 
   -- The byte at the counter touches nothing.
-  pub untouched : {opcode : ℕ} → opcode ≡ slice_index m r.counter → region_of opcode < 10 → AllFree reads stores (region_by (region_of opcode) r m) → Untouched reads stores r m
-  untouched e l f =
-      let h = entry_passes (decoded (slice_index m r.counter)) (rw e at l) (rw e at f) in
+  pub untouched : {opcode : ℕ} → opcode ≡ slice_index m r.counter → RegionFree reads stores (region_of opcode) r m → Untouched reads stores r m
+  untouched e f =
+      let h = entry_passes (decoded (slice_index m r.counter)) (rw e at f) in
       (not_first reads r.counter _ code.0 h.0, h.1)

@@ -2,7 +2,7 @@
 use Prim.Native.Nat.{ℕ, zero, suc, ◌+◌, ◌-◌, ◌≤◌, ◌<◌}
 use Rattle.std.proofs.Math.Path.{◌≡◌, refl, ap}
 use Rattle.std.proofs.Common.{ap₂, sym, ◌∙◌, subst, true≢false, inl, ⊎_elim, eq-eqb, ne_eqb}
-use Rattle.std.specs.Prelude.{Bool, true, false, not, cond, List, [], ◌∷◌, ◌⊎◌, eqb, None}
+use Rattle.std.specs.Prelude.{Bool, true, false, not, cond, List, [], ◌∷◌, ◌⊎◌, eqb, None, Option, Some}
 use Rattle.std.proofs.Math.Logic.{inr}
 use Rattle.std.proofs.Math.Decide.{dec_lt}
 use native.Mathlib.Omega.{arith}
@@ -25,8 +25,6 @@ use Rattle.manual.proofs.Theorems.RunAnswers.{same}
 use Rattle.manual.proofs.Theorems.Serving.{recorded, high_and_low}
 use Rattle.footprint.specs.Lemmas.Footprints.{due_list}
 use Rattle.guard_maps.specs.declared.Touch.{Touch}
-use Rattle.guard_maps.specs.declared.Ahead.{Ahead}
-use Rattle.guard_maps.specs.declared.Found.{Found}
 use Rattle.guard_maps.specs.Maps.{first_in, touching, ahead_of, nowhere}
 use Rattle.guard.specs.declared.Guarded.{Guarded}
 use Rattle.guard.specs.declared.Halt.{Halt}
@@ -65,15 +63,15 @@ module _ (reads stores : ℕ → Bool) (lines : Lines) where
   later j k s s' m m' (Guarded.Ran q, e) h = (omega (arith, h.0), omega (arith, h.1), inl (omega (arith, h.0)))
   later j k s s' m m' (Guarded.Halted x, e) h = (omega (arith, h.0), omega (arith, h.1), inl (omega (arith, h.0)))
 
-  by_step : (j k : ℕ) (s : Machine) (m : List ℕ) (x : Ahead) (t : Bool) → is_made (exec (step_full lines s) m).0.reason ≡ t
+  by_step : (j k : ℕ) (s : Machine) (m : List ℕ) (x : Option Touch) (t : Bool) → is_made (exec (step_full lines s) m).0.reason ≡ t
       → let w = exec (step_full lines s) m in
       Where j (k + 1) w.0.machine w.1 (guarded_full reads stores j (k + 1) lines w.0.machine w.1)
       → Where (suc j) k s m
       (unless x (λ z. (halted z k s, m))
       (cond t (guarded_full reads stores j (k + 1) lines w.0.machine w.1) (ran w.0.reason k w.0.machine, w.1)))
-  by_step j k s m (Ahead.Touches z) t is h = (omega arith, omega arith, inr (refl, refl))
-  by_step j k s m Ahead.Nothing true is h = later j k s _ m _ (guarded_full reads stores j (k + 1) lines _ _) h
-  by_step j k s m Ahead.Nothing false is h = (omega arith, omega arith, inr (refusal_leaves lines s m is))
+  by_step j k s m (Some z) t is h = (omega arith, omega arith, inr (refl, refl))
+  by_step j k s m None true is h = later j k s _ m _ (guarded_full reads stores j (k + 1) lines _ _) h
+  by_step j k s m None false is h = (omega arith, omega arith, inr (refusal_leaves lines s m is))
 
   pub comes : (j k : ℕ) (s : Machine) (m : List ℕ) → Where j k s m (guarded_full reads stores j k lines s m)
   unfolding guarded_full
@@ -82,15 +80,15 @@ module _ (reads stores : ℕ → Bool) (lines : Lines) where
 
 -- ---- one step, with nothing guarded
 
-none_first : (l : List ℕ) → first_in nowhere l ≡ Found.Nothing
+none_first : (l : List ℕ) → first_in nowhere l ≡ None
 unfolding first_in
 none_first [] = refl
 none_first (a ∷ l) = none_first l
 
-never_halts : (lines : Lines) (s : Machine) (m : List ℕ) (t : Touch) → ahead_of nowhere nowhere lines s m ≡ Ahead.Touches t → ⊥
+never_halts : (lines : Lines) (s : Machine) (m : List ℕ) (t : Touch) → ahead_of nowhere nowhere lines s m ≡ Some t → ⊥
 never_halts lines s m t e =
     let f = ap₂ touching (none_first (listed_step_full lines s m)) (none_first (stored_by_step_full lines s m)) in
-    let g : Ahead.Nothing ≡ Ahead.Touches t = sym f ∙ e in
+    let g : None ≡ Some t = sym f ∙ e in
     let z : ◌≡◌ {A = ℕ} 0 1 = cc in omega arith
 
 module _ (k : ℕ) (lines : Lines) (s : Machine) (m : List ℕ) (e : List ℕ) where
@@ -162,12 +160,12 @@ module _ (stop bound : ℕ) (lines : Lines) where
   module _ (guards : ℕ → Bool) (at : guards stop ≡ true) (irq : lines.irq ≡ true) where
     -- a step from the address reads the byte there, unless NMI falls
     seen : (s : Machine) (m : List ℕ) → s.cycles ≤ highest_count → falls lines s ≡ false → s.registers.counter ≡ stop
-        → ahead_of guards nowhere lines s m ≡ Ahead.Nothing → ⊥
+        → ahead_of guards nowhere lines s m ≡ None → ⊥
     unfolding first_in
     seen s m room f z e =
         let none = (nothing_ahead (first_in guards (listed_step_full lines s m)) _ e).0 in
         let first = ap (first_in guards) (due_list lines s m None room (due_none lines s f (rw irq))) in
-        let found : Found.At stop ≡ Found.Nothing = rw (z, at) at (sym first ∙ none) in
+        let found : Some stop ≡ None = rw (z, at) at (sym first ∙ none) in
         let y : ◌≡◌ {A = ℕ} 0 1 = cc in omega arith
 
     abbrev Heard : Machine → Type 0
@@ -189,7 +187,7 @@ module _ (stop bound : ℕ) (lines : Lines) where
       Rest = is_made after.0.reason ≡ true
           → toward stop bound lines (k + 1) after.0.machine after.1 ≡ onward (guarded_full guards nowhere j (k + 1) lines after.0.machine after.1)
 
-      by_made : ahead_of guards nowhere lines s m ≡ Ahead.Nothing → eqb s.registers.counter stop ≡ false
+      by_made : ahead_of guards nowhere lines s m ≡ None → eqb s.registers.counter stop ≡ false
           → (t : Bool) → is_made after.0.reason ≡ t → Rest
           → toward stop bound lines k s m ≡ onward guarded
       by_made a f true h rest =
@@ -202,9 +200,9 @@ module _ (stop bound : ℕ) (lines : Lines) where
           ∙ refused_elsewhere after.0.reason k after.0.machine after.1 h stays
           ∙ ap onward (sym (guarded_stops guards nowhere j k lines s m after.0 after.1 a refl h))
 
-      by_ahead : s.cycles ≤ highest_count → Heard s → (x : Ahead) → ahead_of guards nowhere lines s m ≡ x → Rest → toward stop bound lines k s m ≡ onward guarded
-      by_ahead room heard (Ahead.Touches t) a rest = ap onward (sym (guarded_halts guards nowhere j k lines s m t a))
-      by_ahead room heard Ahead.Nothing a rest =
+      by_ahead : s.cycles ≤ highest_count → Heard s → (x : Option Touch) → ahead_of guards nowhere lines s m ≡ x → Rest → toward stop bound lines k s m ≡ onward guarded
+      by_ahead room heard (Some t) a rest = ap onward (sym (guarded_halts guards nowhere j k lines s m t a))
+      by_ahead room heard None a rest =
           by_made a (ne_eqb _ _ (λ z. seen s m room (heard z) z a)) (is_made after.0.reason) refl rest
 
       by_room : Dec (highest_count < s.cycles) → Heard s → Rest → toward stop bound lines k s m ≡ onward guarded

@@ -2,7 +2,7 @@
 use Prim.Native.Nat.{ℕ, zero, suc, ◌+◌, ◌-◌, ◌≤◌, ◌<◌}
 use Rattle.std.specs.Prelude.{◌≡◌, get_or, Option, Some, None}
 use Rattle.std.proofs.Math.Path.{refl}
-use Rattle.std.proofs.Common.{ap, ◌∙◌, add-one}
+use Rattle.std.proofs.Common.{ap, ◌∙◌, add-one, add-zero}
 use mathlib.Core.List.{List, [], ◌++◌}
 use native.Mathlib.Omega.{arith}
 use borrow.Author.Tests.{le-leb, lt-leb}
@@ -69,47 +69,34 @@ module _ (m : List ℕ) where
     cut_line h = cut_at at (end - at) (decoded (get_or m at 0)) refl (omega (arith, size_some (decoded (get_or m at 0))))
 
   -- one more of the bytes that are no whole instruction, and of those of a line
-  pub next_unknown : (at end : ℕ) → at < end
-      → texts (unknown m at (end - at)) ≡ text (line_of m at None) ++ texts (unknown m (at + 1) (end - (at + 1)))
-  next_unknown at end h =
-      let one : end - at ≡ suc (end - (at + 1)) = omega arith in
-      rw (one, add-one at)
+  unknown_suc : (at n : ℕ) → texts (unknown m at (suc n)) ≡ texts (unknown m at n) ++ text (line_of m (at + n) None)
+  unknown_suc at zero = rw (add-zero at)
+  unknown_suc at (suc n) = let next : at + suc n ≡ suc at + n = omega arith in rw (next, unknown_suc (suc at) n)
 
-  pub next_byte : (at i count : ℕ) → i < count
-      → byte_fields (bytes_from m (at + i) (count - i)) ≡ spaced (hex2 (get_or m (address_of (at + i)) 0)) ++ byte_fields (bytes_from m (at + (i + 1)) (count - (i + 1)))
-  next_byte at i count h =
-      let one : count - i ≡ suc (count - (i + 1)) = omega arith in
-      let next : at + (i + 1) ≡ suc (at + i) = omega arith in
-      rw (one, next)
+  pub one_unknown : (start at : ℕ) → start ≤ at
+      → texts (unknown m start (at + 1 - start)) ≡ texts (unknown m start (at - start)) ++ text (line_of m at None)
+  one_unknown start at h =
+      let count : at + 1 - start ≡ suc (at - start) = omega arith in
+      let here : start + (at - start) ≡ at = omega arith in
+      rw (count, unknown_suc start (at - start), here)
 
-  -- all of them are left at first
-  pub all_bytes : (at count : ℕ) → byte_fields (bytes_from m (at + 0) (count - 0)) ≡ byte_fields (bytes_from m at count)
-  all_bytes at count =
-      let from : at + 0 ≡ at = omega arith in
-      let left : count - 0 ≡ count = omega arith in
-      rw (from, left)
+  byte_suc : (at n : ℕ)
+      → byte_fields (bytes_from m at (suc n)) ≡ byte_fields (bytes_from m at n) ++ spaced (hex2 (get_or m (address_of (at + n)) 0))
+  byte_suc at zero = rw (add-zero at)
+  byte_suc at (suc n) = let next : at + suc n ≡ suc at + n = omega arith in rw (next, byte_suc (suc at) n)
 
-  -- and none
-  pub none_unknown : (at end : ℕ) → end ≤ at → texts (unknown m at (end - at)) ≡ []
-  none_unknown at end h =
-      let none : end - at ≡ 0 = omega arith in
-      rw none
+  pub one_byte : (at n : ℕ)
+      → byte_fields (bytes_from m at (n + 1)) ≡ byte_fields (bytes_from m at n) ++ spaced (hex2 (get_or m (address_of (at + n)) 0))
+  one_byte at n = rw (add-one n, byte_suc at n)
 
-  pub none_byte : (at i count : ℕ) → count ≤ i → byte_fields (bytes_from m (at + i) (count - i)) ≡ []
-  none_byte at i count h =
-      let none : count - i ≡ 0 = omega arith in
-      rw none
-
+  -- no line is left at the end
   pub none_line : (at end : ℕ) → end ≤ at → texts (lines m at (end - at) 0) ≡ []
   unfolding lines
   none_line at end h =
       let none : end - at ≡ 0 = omega arith in
       rw none
 
--- The words of a line, by what its opcode means.
+-- The words of a line whose opcode is defined.
 module _ (m : List ℕ) (at : ℕ) {d : Option Entry} {name : List ℕ} (n : name ≡ name_of d) where
-  pub words_undefined : d ≡ None → name ≡ words m at d
-  words_undefined h = n ∙ rw h
-
   pub words_defined : {e : Entry} → d ≡ Some e → name ++ operand e.mode m at ≡ words m at d
   words_defined h = rw (n, h)

@@ -11,607 +11,607 @@ use Rattle.opcode_rows.proofs.line.Goals as goal
 
 pub stores-requires : goal.stores-requires
 unfolding decoded rows operation_at operations mode_at modes
-stores-requires c = (c.requires, lit≤ tt, refl)
+stores-requires c = (lit≤ tt, refl)
 
 pub keeps-requires : goal.keeps-requires
 unfolding decoded rows operation_at operations mode_at modes
-keeps-requires c = (c.requires, lit≤ tt, refl)
+keeps-requires c = (lit≤ tt, refl)
 
 pub keeps-requires-in-5 : goal.keeps-requires-in-5
 unfolding decoded rows operation_at operations mode_at modes
-keeps-requires-in-5 c = (c.requires, lit≤ tt, refl)
+keeps-requires-in-5 c = (lit≤ tt, refl)
 
 pub stores-requires-in-6 : goal.stores-requires-in-6
 unfolding decoded rows operation_at operations mode_at modes
-stores-requires-in-6 c = (c.requires, lit≤ tt, refl)
+stores-requires-in-6 c = (lit≤ tt, refl)
 
 pub stores-requires-in-8 : goal.stores-requires-in-8
 unfolding decoded rows operation_at operations mode_at modes
-stores-requires-in-8 c = (c.requires, lit≤ tt, refl)
+stores-requires-in-8 c = (lit≤ tt, refl)
 
 pub keeps-requires-in-9 : goal.keeps-requires-in-9
 unfolding decoded rows operation_at operations mode_at modes
-keeps-requires-in-9 c = (c.requires, lit≤ tt, refl)
+keeps-requires-in-9 c = (lit≤ tt, refl)
 
 pub keeps-requires-in-10 : goal.keeps-requires-in-10
 unfolding decoded rows operation_at operations mode_at modes
-keeps-requires-in-10 c = (c.requires, lit≤ tt, refl)
+keeps-requires-in-10 c = (lit≤ tt, refl)
 
 pub keeps-requires-in-13 : goal.keeps-requires-in-13
 unfolding decoded rows operation_at operations mode_at modes
-keeps-requires-in-13 c = (c.requires, lit≤ tt, refl)
+keeps-requires-in-13 c = (lit≤ tt, refl)
 
 pub stores-requires-in-14 : goal.stores-requires-in-14
 unfolding decoded rows operation_at operations mode_at modes
-stores-requires-in-14 c = (c.requires, lit≤ tt, refl)
+stores-requires-in-14 c = (lit≤ tt, refl)
 
 pub keeps-requires-in-16 : goal.keeps-requires-in-16
 unfolding decoded rows operation_at operations mode_at modes
-keeps-requires-in-16 c = (c.requires, lit≤ tt, refl)
+keeps-requires-in-16 c = (lit≤ tt, refl)
 
 pub keeps-requires-in-17 : goal.keeps-requires-in-17
 unfolding decoded rows operation_at operations mode_at modes
-keeps-requires-in-17 c = (c.requires, lit≤ tt, refl)
+keeps-requires-in-17 c = (lit≤ tt, refl)
 
 pub keeps-requires-in-21 : goal.keeps-requires-in-21
 unfolding decoded rows operation_at operations mode_at modes
-keeps-requires-in-21 c = (c.requires, lit≤ tt, refl)
+keeps-requires-in-21 c = (lit≤ tt, refl)
 
 pub stores-requires-in-22 : goal.stores-requires-in-22
 unfolding decoded rows operation_at operations mode_at modes
-stores-requires-in-22 c = (c.requires, lit≤ tt, refl)
+stores-requires-in-22 c = (lit≤ tt, refl)
 
 pub keeps-requires-in-24 : goal.keeps-requires-in-24
 unfolding decoded rows operation_at operations mode_at modes
-keeps-requires-in-24 c = (c.requires, lit≤ tt, refl)
+keeps-requires-in-24 c = (lit≤ tt, refl)
 
 pub keeps-requires-in-25 : goal.keeps-requires-in-25
 unfolding decoded rows operation_at operations mode_at modes
-keeps-requires-in-25 c = (c.requires, lit≤ tt, refl)
+keeps-requires-in-25 c = (lit≤ tt, refl)
 
 pub keeps-requires-in-29 : goal.keeps-requires-in-29
 unfolding decoded rows operation_at operations mode_at modes
-keeps-requires-in-29 c = (c.requires, lit≤ tt, refl)
+keeps-requires-in-29 c = (lit≤ tt, refl)
 
 pub stores-requires-in-30 : goal.stores-requires-in-30
 unfolding decoded rows operation_at operations mode_at modes
-stores-requires-in-30 c = (c.requires, lit≤ tt, refl)
+stores-requires-in-30 c = (lit≤ tt, refl)
 
 pub stores-requires-in-32 : goal.stores-requires-in-32
 unfolding decoded rows operation_at operations mode_at modes
-stores-requires-in-32 c = (c.requires, lit≤ tt, refl)
+stores-requires-in-32 c = (lit≤ tt, refl)
 
 pub keeps-requires-in-33 : goal.keeps-requires-in-33
 unfolding decoded rows operation_at operations mode_at modes
-keeps-requires-in-33 c = (c.requires, lit≤ tt, refl)
+keeps-requires-in-33 c = (lit≤ tt, refl)
 
 pub keeps-requires-in-36 : goal.keeps-requires-in-36
 unfolding decoded rows operation_at operations mode_at modes
-keeps-requires-in-36 c = (c.requires, lit≤ tt, refl)
+keeps-requires-in-36 c = (lit≤ tt, refl)
 
 pub keeps-requires-in-37 : goal.keeps-requires-in-37
 unfolding decoded rows operation_at operations mode_at modes
-keeps-requires-in-37 c = (c.requires, lit≤ tt, refl)
+keeps-requires-in-37 c = (lit≤ tt, refl)
 
 pub stores-requires-in-38 : goal.stores-requires-in-38
 unfolding decoded rows operation_at operations mode_at modes
-stores-requires-in-38 c = (c.requires, lit≤ tt, refl)
+stores-requires-in-38 c = (lit≤ tt, refl)
 
 pub keeps-requires-in-40 : goal.keeps-requires-in-40
 unfolding decoded rows operation_at operations mode_at modes
-keeps-requires-in-40 c = (c.requires, lit≤ tt, refl)
+keeps-requires-in-40 c = (lit≤ tt, refl)
 
 pub keeps-requires-in-41 : goal.keeps-requires-in-41
 unfolding decoded rows operation_at operations mode_at modes
-keeps-requires-in-41 c = (c.requires, lit≤ tt, refl)
+keeps-requires-in-41 c = (lit≤ tt, refl)
 
 pub keeps-requires-in-42 : goal.keeps-requires-in-42
 unfolding decoded rows operation_at operations mode_at modes
-keeps-requires-in-42 c = (c.requires, lit≤ tt, refl)
+keeps-requires-in-42 c = (lit≤ tt, refl)
 
 pub keeps-requires-in-44 : goal.keeps-requires-in-44
 unfolding decoded rows operation_at operations mode_at modes
-keeps-requires-in-44 c = (c.requires, lit≤ tt, refl)
+keeps-requires-in-44 c = (lit≤ tt, refl)
 
 pub keeps-requires-in-45 : goal.keeps-requires-in-45
 unfolding decoded rows operation_at operations mode_at modes
-keeps-requires-in-45 c = (c.requires, lit≤ tt, refl)
+keeps-requires-in-45 c = (lit≤ tt, refl)
 
 pub stores-requires-in-46 : goal.stores-requires-in-46
 unfolding decoded rows operation_at operations mode_at modes
-stores-requires-in-46 c = (c.requires, lit≤ tt, refl)
+stores-requires-in-46 c = (lit≤ tt, refl)
 
 pub keeps-requires-in-48 : goal.keeps-requires-in-48
 unfolding decoded rows operation_at operations mode_at modes
-keeps-requires-in-48 c = (c.requires, lit≤ tt, refl)
+keeps-requires-in-48 c = (lit≤ tt, refl)
 
 pub keeps-requires-in-49 : goal.keeps-requires-in-49
 unfolding decoded rows operation_at operations mode_at modes
-keeps-requires-in-49 c = (c.requires, lit≤ tt, refl)
+keeps-requires-in-49 c = (lit≤ tt, refl)
 
 pub keeps-requires-in-53 : goal.keeps-requires-in-53
 unfolding decoded rows operation_at operations mode_at modes
-keeps-requires-in-53 c = (c.requires, lit≤ tt, refl)
+keeps-requires-in-53 c = (lit≤ tt, refl)
 
 pub stores-requires-in-54 : goal.stores-requires-in-54
 unfolding decoded rows operation_at operations mode_at modes
-stores-requires-in-54 c = (c.requires, lit≤ tt, refl)
+stores-requires-in-54 c = (lit≤ tt, refl)
 
 pub keeps-requires-in-56 : goal.keeps-requires-in-56
 unfolding decoded rows operation_at operations mode_at modes
-keeps-requires-in-56 c = (c.requires, lit≤ tt, refl)
+keeps-requires-in-56 c = (lit≤ tt, refl)
 
 pub keeps-requires-in-57 : goal.keeps-requires-in-57
 unfolding decoded rows operation_at operations mode_at modes
-keeps-requires-in-57 c = (c.requires, lit≤ tt, refl)
+keeps-requires-in-57 c = (lit≤ tt, refl)
 
 pub keeps-requires-in-61 : goal.keeps-requires-in-61
 unfolding decoded rows operation_at operations mode_at modes
-keeps-requires-in-61 c = (c.requires, lit≤ tt, refl)
+keeps-requires-in-61 c = (lit≤ tt, refl)
 
 pub stores-requires-in-62 : goal.stores-requires-in-62
 unfolding decoded rows operation_at operations mode_at modes
-stores-requires-in-62 c = (c.requires, lit≤ tt, refl)
+stores-requires-in-62 c = (lit≤ tt, refl)
 
 pub keeps-requires-in-64 : goal.keeps-requires-in-64
 unfolding decoded rows operation_at operations mode_at modes
-keeps-requires-in-64 c = (c.requires, lit≤ tt, refl)
+keeps-requires-in-64 c = (lit≤ tt, refl)
 
 pub keeps-requires-in-65 : goal.keeps-requires-in-65
 unfolding decoded rows operation_at operations mode_at modes
-keeps-requires-in-65 c = (c.requires, lit≤ tt, refl)
+keeps-requires-in-65 c = (lit≤ tt, refl)
 
 pub keeps-requires-in-69 : goal.keeps-requires-in-69
 unfolding decoded rows operation_at operations mode_at modes
-keeps-requires-in-69 c = (c.requires, lit≤ tt, refl)
+keeps-requires-in-69 c = (lit≤ tt, refl)
 
 pub stores-requires-in-70 : goal.stores-requires-in-70
 unfolding decoded rows operation_at operations mode_at modes
-stores-requires-in-70 c = (c.requires, lit≤ tt, refl)
+stores-requires-in-70 c = (lit≤ tt, refl)
 
 pub stores-requires-in-72 : goal.stores-requires-in-72
 unfolding decoded rows operation_at operations mode_at modes
-stores-requires-in-72 c = (c.requires, lit≤ tt, refl)
+stores-requires-in-72 c = (lit≤ tt, refl)
 
 pub keeps-requires-in-73 : goal.keeps-requires-in-73
 unfolding decoded rows operation_at operations mode_at modes
-keeps-requires-in-73 c = (c.requires, lit≤ tt, refl)
+keeps-requires-in-73 c = (lit≤ tt, refl)
 
 pub keeps-requires-in-74 : goal.keeps-requires-in-74
 unfolding decoded rows operation_at operations mode_at modes
-keeps-requires-in-74 c = (c.requires, lit≤ tt, refl)
+keeps-requires-in-74 c = (lit≤ tt, refl)
 
 pub keeps-requires-in-76 : goal.keeps-requires-in-76
 unfolding decoded rows operation_at operations mode_at modes
-keeps-requires-in-76 c = (c.requires, lit≤ tt, refl)
+keeps-requires-in-76 c = (lit≤ tt, refl)
 
 pub keeps-requires-in-77 : goal.keeps-requires-in-77
 unfolding decoded rows operation_at operations mode_at modes
-keeps-requires-in-77 c = (c.requires, lit≤ tt, refl)
+keeps-requires-in-77 c = (lit≤ tt, refl)
 
 pub stores-requires-in-78 : goal.stores-requires-in-78
 unfolding decoded rows operation_at operations mode_at modes
-stores-requires-in-78 c = (c.requires, lit≤ tt, refl)
+stores-requires-in-78 c = (lit≤ tt, refl)
 
 pub keeps-requires-in-80 : goal.keeps-requires-in-80
 unfolding decoded rows operation_at operations mode_at modes
-keeps-requires-in-80 c = (c.requires, lit≤ tt, refl)
+keeps-requires-in-80 c = (lit≤ tt, refl)
 
 pub keeps-requires-in-81 : goal.keeps-requires-in-81
 unfolding decoded rows operation_at operations mode_at modes
-keeps-requires-in-81 c = (c.requires, lit≤ tt, refl)
+keeps-requires-in-81 c = (lit≤ tt, refl)
 
 pub keeps-requires-in-85 : goal.keeps-requires-in-85
 unfolding decoded rows operation_at operations mode_at modes
-keeps-requires-in-85 c = (c.requires, lit≤ tt, refl)
+keeps-requires-in-85 c = (lit≤ tt, refl)
 
 pub stores-requires-in-86 : goal.stores-requires-in-86
 unfolding decoded rows operation_at operations mode_at modes
-stores-requires-in-86 c = (c.requires, lit≤ tt, refl)
+stores-requires-in-86 c = (lit≤ tt, refl)
 
 pub keeps-requires-in-88 : goal.keeps-requires-in-88
 unfolding decoded rows operation_at operations mode_at modes
-keeps-requires-in-88 c = (c.requires, lit≤ tt, refl)
+keeps-requires-in-88 c = (lit≤ tt, refl)
 
 pub keeps-requires-in-89 : goal.keeps-requires-in-89
 unfolding decoded rows operation_at operations mode_at modes
-keeps-requires-in-89 c = (c.requires, lit≤ tt, refl)
+keeps-requires-in-89 c = (lit≤ tt, refl)
 
 pub keeps-requires-in-93 : goal.keeps-requires-in-93
 unfolding decoded rows operation_at operations mode_at modes
-keeps-requires-in-93 c = (c.requires, lit≤ tt, refl)
+keeps-requires-in-93 c = (lit≤ tt, refl)
 
 pub stores-requires-in-94 : goal.stores-requires-in-94
 unfolding decoded rows operation_at operations mode_at modes
-stores-requires-in-94 c = (c.requires, lit≤ tt, refl)
+stores-requires-in-94 c = (lit≤ tt, refl)
 
 pub keeps-requires-in-96 : goal.keeps-requires-in-96
 unfolding decoded rows operation_at operations mode_at modes
-keeps-requires-in-96 c = (c.requires, lit≤ tt, refl)
+keeps-requires-in-96 c = (lit≤ tt, refl)
 
 pub adds-requires : goal.adds-requires
 unfolding decoded rows operation_at operations mode_at modes
-adds-requires c = (c.requires, lit≤ tt)
+adds-requires c = lit≤ tt
 
 pub adds-requires-in-101 : goal.adds-requires-in-101
 unfolding decoded rows operation_at operations mode_at modes
-adds-requires-in-101 c = (c.requires, lit≤ tt)
+adds-requires-in-101 c = lit≤ tt
 
 pub stores-requires-in-102 : goal.stores-requires-in-102
 unfolding decoded rows operation_at operations mode_at modes
-stores-requires-in-102 c = (c.requires, lit≤ tt, refl)
+stores-requires-in-102 c = (lit≤ tt, refl)
 
 pub keeps-requires-in-104 : goal.keeps-requires-in-104
 unfolding decoded rows operation_at operations mode_at modes
-keeps-requires-in-104 c = (c.requires, lit≤ tt, refl)
+keeps-requires-in-104 c = (lit≤ tt, refl)
 
 pub adds-requires-in-105 : goal.adds-requires-in-105
 unfolding decoded rows operation_at operations mode_at modes
-adds-requires-in-105 c = (c.requires, lit≤ tt)
+adds-requires-in-105 c = lit≤ tt
 
 pub keeps-requires-in-106 : goal.keeps-requires-in-106
 unfolding decoded rows operation_at operations mode_at modes
-keeps-requires-in-106 c = (c.requires, lit≤ tt, refl)
+keeps-requires-in-106 c = (lit≤ tt, refl)
 
 pub keeps-requires-in-108 : goal.keeps-requires-in-108
 unfolding decoded rows operation_at operations mode_at modes
-keeps-requires-in-108 c = (c.requires, lit≤ tt, refl)
+keeps-requires-in-108 c = (lit≤ tt, refl)
 
 pub adds-requires-in-109 : goal.adds-requires-in-109
 unfolding decoded rows operation_at operations mode_at modes
-adds-requires-in-109 c = (c.requires, lit≤ tt)
+adds-requires-in-109 c = lit≤ tt
 
 pub stores-requires-in-110 : goal.stores-requires-in-110
 unfolding decoded rows operation_at operations mode_at modes
-stores-requires-in-110 c = (c.requires, lit≤ tt, refl)
+stores-requires-in-110 c = (lit≤ tt, refl)
 
 pub keeps-requires-in-112 : goal.keeps-requires-in-112
 unfolding decoded rows operation_at operations mode_at modes
-keeps-requires-in-112 c = (c.requires, lit≤ tt, refl)
+keeps-requires-in-112 c = (lit≤ tt, refl)
 
 pub adds-requires-in-113 : goal.adds-requires-in-113
 unfolding decoded rows operation_at operations mode_at modes
-adds-requires-in-113 c = (c.requires, lit≤ tt)
+adds-requires-in-113 c = lit≤ tt
 
 pub adds-requires-in-117 : goal.adds-requires-in-117
 unfolding decoded rows operation_at operations mode_at modes
-adds-requires-in-117 c = (c.requires, lit≤ tt)
+adds-requires-in-117 c = lit≤ tt
 
 pub stores-requires-in-118 : goal.stores-requires-in-118
 unfolding decoded rows operation_at operations mode_at modes
-stores-requires-in-118 c = (c.requires, lit≤ tt, refl)
+stores-requires-in-118 c = (lit≤ tt, refl)
 
 pub keeps-requires-in-120 : goal.keeps-requires-in-120
 unfolding decoded rows operation_at operations mode_at modes
-keeps-requires-in-120 c = (c.requires, lit≤ tt, refl)
+keeps-requires-in-120 c = (lit≤ tt, refl)
 
 pub adds-requires-in-121 : goal.adds-requires-in-121
 unfolding decoded rows operation_at operations mode_at modes
-adds-requires-in-121 c = (c.requires, lit≤ tt)
+adds-requires-in-121 c = lit≤ tt
 
 pub adds-requires-in-125 : goal.adds-requires-in-125
 unfolding decoded rows operation_at operations mode_at modes
-adds-requires-in-125 c = (c.requires, lit≤ tt)
+adds-requires-in-125 c = lit≤ tt
 
 pub stores-requires-in-126 : goal.stores-requires-in-126
 unfolding decoded rows operation_at operations mode_at modes
-stores-requires-in-126 c = (c.requires, lit≤ tt, refl)
+stores-requires-in-126 c = (lit≤ tt, refl)
 
 pub stores-requires-in-129 : goal.stores-requires-in-129
 unfolding decoded rows operation_at operations mode_at modes
-stores-requires-in-129 c = (c.requires, lit≤ tt, refl)
+stores-requires-in-129 c = (lit≤ tt, refl)
 
 pub stores-requires-in-132 : goal.stores-requires-in-132
 unfolding decoded rows operation_at operations mode_at modes
-stores-requires-in-132 c = (c.requires, lit≤ tt, refl)
+stores-requires-in-132 c = (lit≤ tt, refl)
 
 pub stores-requires-in-133 : goal.stores-requires-in-133
 unfolding decoded rows operation_at operations mode_at modes
-stores-requires-in-133 c = (c.requires, lit≤ tt, refl)
+stores-requires-in-133 c = (lit≤ tt, refl)
 
 pub stores-requires-in-134 : goal.stores-requires-in-134
 unfolding decoded rows operation_at operations mode_at modes
-stores-requires-in-134 c = (c.requires, lit≤ tt, refl)
+stores-requires-in-134 c = (lit≤ tt, refl)
 
 pub keeps-requires-in-136 : goal.keeps-requires-in-136
 unfolding decoded rows operation_at operations mode_at modes
-keeps-requires-in-136 c = (c.requires, lit≤ tt, refl)
+keeps-requires-in-136 c = (lit≤ tt, refl)
 
 pub keeps-requires-in-138 : goal.keeps-requires-in-138
 unfolding decoded rows operation_at operations mode_at modes
-keeps-requires-in-138 c = (c.requires, lit≤ tt, refl)
+keeps-requires-in-138 c = (lit≤ tt, refl)
 
 pub stores-requires-in-140 : goal.stores-requires-in-140
 unfolding decoded rows operation_at operations mode_at modes
-stores-requires-in-140 c = (c.requires, lit≤ tt, refl)
+stores-requires-in-140 c = (lit≤ tt, refl)
 
 pub stores-requires-in-141 : goal.stores-requires-in-141
 unfolding decoded rows operation_at operations mode_at modes
-stores-requires-in-141 c = (c.requires, lit≤ tt, refl)
+stores-requires-in-141 c = (lit≤ tt, refl)
 
 pub stores-requires-in-142 : goal.stores-requires-in-142
 unfolding decoded rows operation_at operations mode_at modes
-stores-requires-in-142 c = (c.requires, lit≤ tt, refl)
+stores-requires-in-142 c = (lit≤ tt, refl)
 
 pub keeps-requires-in-144 : goal.keeps-requires-in-144
 unfolding decoded rows operation_at operations mode_at modes
-keeps-requires-in-144 c = (c.requires, lit≤ tt, refl)
+keeps-requires-in-144 c = (lit≤ tt, refl)
 
 pub stores-requires-in-145 : goal.stores-requires-in-145
 unfolding decoded rows operation_at operations mode_at modes
-stores-requires-in-145 c = (c.requires, lit≤ tt, refl)
+stores-requires-in-145 c = (lit≤ tt, refl)
 
 pub stores-requires-in-148 : goal.stores-requires-in-148
 unfolding decoded rows operation_at operations mode_at modes
-stores-requires-in-148 c = (c.requires, lit≤ tt, refl)
+stores-requires-in-148 c = (lit≤ tt, refl)
 
 pub stores-requires-in-149 : goal.stores-requires-in-149
 unfolding decoded rows operation_at operations mode_at modes
-stores-requires-in-149 c = (c.requires, lit≤ tt, refl)
+stores-requires-in-149 c = (lit≤ tt, refl)
 
 pub stores-requires-in-150 : goal.stores-requires-in-150
 unfolding decoded rows operation_at operations mode_at modes
-stores-requires-in-150 c = (c.requires, lit≤ tt, refl)
+stores-requires-in-150 c = (lit≤ tt, refl)
 
 pub keeps-requires-in-152 : goal.keeps-requires-in-152
 unfolding decoded rows operation_at operations mode_at modes
-keeps-requires-in-152 c = (c.requires, lit≤ tt, refl)
+keeps-requires-in-152 c = (lit≤ tt, refl)
 
 pub stores-requires-in-153 : goal.stores-requires-in-153
 unfolding decoded rows operation_at operations mode_at modes
-stores-requires-in-153 c = (c.requires, lit≤ tt, refl)
+stores-requires-in-153 c = (lit≤ tt, refl)
 
 pub keeps-requires-in-154 : goal.keeps-requires-in-154
 unfolding decoded rows operation_at operations mode_at modes
-keeps-requires-in-154 c = (c.requires, lit≤ tt, refl)
+keeps-requires-in-154 c = (lit≤ tt, refl)
 
 pub stores-requires-in-157 : goal.stores-requires-in-157
 unfolding decoded rows operation_at operations mode_at modes
-stores-requires-in-157 c = (c.requires, lit≤ tt, refl)
+stores-requires-in-157 c = (lit≤ tt, refl)
 
 pub keeps-requires-in-160 : goal.keeps-requires-in-160
 unfolding decoded rows operation_at operations mode_at modes
-keeps-requires-in-160 c = (c.requires, lit≤ tt, refl)
+keeps-requires-in-160 c = (lit≤ tt, refl)
 
 pub keeps-requires-in-161 : goal.keeps-requires-in-161
 unfolding decoded rows operation_at operations mode_at modes
-keeps-requires-in-161 c = (c.requires, lit≤ tt, refl)
+keeps-requires-in-161 c = (lit≤ tt, refl)
 
 pub keeps-requires-in-162 : goal.keeps-requires-in-162
 unfolding decoded rows operation_at operations mode_at modes
-keeps-requires-in-162 c = (c.requires, lit≤ tt, refl)
+keeps-requires-in-162 c = (lit≤ tt, refl)
 
 pub keeps-requires-in-164 : goal.keeps-requires-in-164
 unfolding decoded rows operation_at operations mode_at modes
-keeps-requires-in-164 c = (c.requires, lit≤ tt, refl)
+keeps-requires-in-164 c = (lit≤ tt, refl)
 
 pub keeps-requires-in-165 : goal.keeps-requires-in-165
 unfolding decoded rows operation_at operations mode_at modes
-keeps-requires-in-165 c = (c.requires, lit≤ tt, refl)
+keeps-requires-in-165 c = (lit≤ tt, refl)
 
 pub keeps-requires-in-166 : goal.keeps-requires-in-166
 unfolding decoded rows operation_at operations mode_at modes
-keeps-requires-in-166 c = (c.requires, lit≤ tt, refl)
+keeps-requires-in-166 c = (lit≤ tt, refl)
 
 pub keeps-requires-in-168 : goal.keeps-requires-in-168
 unfolding decoded rows operation_at operations mode_at modes
-keeps-requires-in-168 c = (c.requires, lit≤ tt, refl)
+keeps-requires-in-168 c = (lit≤ tt, refl)
 
 pub keeps-requires-in-169 : goal.keeps-requires-in-169
 unfolding decoded rows operation_at operations mode_at modes
-keeps-requires-in-169 c = (c.requires, lit≤ tt, refl)
+keeps-requires-in-169 c = (lit≤ tt, refl)
 
 pub keeps-requires-in-170 : goal.keeps-requires-in-170
 unfolding decoded rows operation_at operations mode_at modes
-keeps-requires-in-170 c = (c.requires, lit≤ tt, refl)
+keeps-requires-in-170 c = (lit≤ tt, refl)
 
 pub keeps-requires-in-172 : goal.keeps-requires-in-172
 unfolding decoded rows operation_at operations mode_at modes
-keeps-requires-in-172 c = (c.requires, lit≤ tt, refl)
+keeps-requires-in-172 c = (lit≤ tt, refl)
 
 pub keeps-requires-in-173 : goal.keeps-requires-in-173
 unfolding decoded rows operation_at operations mode_at modes
-keeps-requires-in-173 c = (c.requires, lit≤ tt, refl)
+keeps-requires-in-173 c = (lit≤ tt, refl)
 
 pub keeps-requires-in-174 : goal.keeps-requires-in-174
 unfolding decoded rows operation_at operations mode_at modes
-keeps-requires-in-174 c = (c.requires, lit≤ tt, refl)
+keeps-requires-in-174 c = (lit≤ tt, refl)
 
 pub keeps-requires-in-176 : goal.keeps-requires-in-176
 unfolding decoded rows operation_at operations mode_at modes
-keeps-requires-in-176 c = (c.requires, lit≤ tt, refl)
+keeps-requires-in-176 c = (lit≤ tt, refl)
 
 pub keeps-requires-in-177 : goal.keeps-requires-in-177
 unfolding decoded rows operation_at operations mode_at modes
-keeps-requires-in-177 c = (c.requires, lit≤ tt, refl)
+keeps-requires-in-177 c = (lit≤ tt, refl)
 
 pub keeps-requires-in-180 : goal.keeps-requires-in-180
 unfolding decoded rows operation_at operations mode_at modes
-keeps-requires-in-180 c = (c.requires, lit≤ tt, refl)
+keeps-requires-in-180 c = (lit≤ tt, refl)
 
 pub keeps-requires-in-181 : goal.keeps-requires-in-181
 unfolding decoded rows operation_at operations mode_at modes
-keeps-requires-in-181 c = (c.requires, lit≤ tt, refl)
+keeps-requires-in-181 c = (lit≤ tt, refl)
 
 pub keeps-requires-in-182 : goal.keeps-requires-in-182
 unfolding decoded rows operation_at operations mode_at modes
-keeps-requires-in-182 c = (c.requires, lit≤ tt, refl)
+keeps-requires-in-182 c = (lit≤ tt, refl)
 
 pub keeps-requires-in-184 : goal.keeps-requires-in-184
 unfolding decoded rows operation_at operations mode_at modes
-keeps-requires-in-184 c = (c.requires, lit≤ tt, refl)
+keeps-requires-in-184 c = (lit≤ tt, refl)
 
 pub keeps-requires-in-185 : goal.keeps-requires-in-185
 unfolding decoded rows operation_at operations mode_at modes
-keeps-requires-in-185 c = (c.requires, lit≤ tt, refl)
+keeps-requires-in-185 c = (lit≤ tt, refl)
 
 pub keeps-requires-in-186 : goal.keeps-requires-in-186
 unfolding decoded rows operation_at operations mode_at modes
-keeps-requires-in-186 c = (c.requires, lit≤ tt, refl)
+keeps-requires-in-186 c = (lit≤ tt, refl)
 
 pub keeps-requires-in-188 : goal.keeps-requires-in-188
 unfolding decoded rows operation_at operations mode_at modes
-keeps-requires-in-188 c = (c.requires, lit≤ tt, refl)
+keeps-requires-in-188 c = (lit≤ tt, refl)
 
 pub keeps-requires-in-189 : goal.keeps-requires-in-189
 unfolding decoded rows operation_at operations mode_at modes
-keeps-requires-in-189 c = (c.requires, lit≤ tt, refl)
+keeps-requires-in-189 c = (lit≤ tt, refl)
 
 pub keeps-requires-in-190 : goal.keeps-requires-in-190
 unfolding decoded rows operation_at operations mode_at modes
-keeps-requires-in-190 c = (c.requires, lit≤ tt, refl)
+keeps-requires-in-190 c = (lit≤ tt, refl)
 
 pub keeps-requires-in-192 : goal.keeps-requires-in-192
 unfolding decoded rows operation_at operations mode_at modes
-keeps-requires-in-192 c = (c.requires, lit≤ tt, refl)
+keeps-requires-in-192 c = (lit≤ tt, refl)
 
 pub keeps-requires-in-193 : goal.keeps-requires-in-193
 unfolding decoded rows operation_at operations mode_at modes
-keeps-requires-in-193 c = (c.requires, lit≤ tt, refl)
+keeps-requires-in-193 c = (lit≤ tt, refl)
 
 pub keeps-requires-in-196 : goal.keeps-requires-in-196
 unfolding decoded rows operation_at operations mode_at modes
-keeps-requires-in-196 c = (c.requires, lit≤ tt, refl)
+keeps-requires-in-196 c = (lit≤ tt, refl)
 
 pub keeps-requires-in-197 : goal.keeps-requires-in-197
 unfolding decoded rows operation_at operations mode_at modes
-keeps-requires-in-197 c = (c.requires, lit≤ tt, refl)
+keeps-requires-in-197 c = (lit≤ tt, refl)
 
 pub stores-requires-in-198 : goal.stores-requires-in-198
 unfolding decoded rows operation_at operations mode_at modes
-stores-requires-in-198 c = (c.requires, lit≤ tt, refl)
+stores-requires-in-198 c = (lit≤ tt, refl)
 
 pub keeps-requires-in-200 : goal.keeps-requires-in-200
 unfolding decoded rows operation_at operations mode_at modes
-keeps-requires-in-200 c = (c.requires, lit≤ tt, refl)
+keeps-requires-in-200 c = (lit≤ tt, refl)
 
 pub keeps-requires-in-201 : goal.keeps-requires-in-201
 unfolding decoded rows operation_at operations mode_at modes
-keeps-requires-in-201 c = (c.requires, lit≤ tt, refl)
+keeps-requires-in-201 c = (lit≤ tt, refl)
 
 pub keeps-requires-in-202 : goal.keeps-requires-in-202
 unfolding decoded rows operation_at operations mode_at modes
-keeps-requires-in-202 c = (c.requires, lit≤ tt, refl)
+keeps-requires-in-202 c = (lit≤ tt, refl)
 
 pub keeps-requires-in-204 : goal.keeps-requires-in-204
 unfolding decoded rows operation_at operations mode_at modes
-keeps-requires-in-204 c = (c.requires, lit≤ tt, refl)
+keeps-requires-in-204 c = (lit≤ tt, refl)
 
 pub keeps-requires-in-205 : goal.keeps-requires-in-205
 unfolding decoded rows operation_at operations mode_at modes
-keeps-requires-in-205 c = (c.requires, lit≤ tt, refl)
+keeps-requires-in-205 c = (lit≤ tt, refl)
 
 pub stores-requires-in-206 : goal.stores-requires-in-206
 unfolding decoded rows operation_at operations mode_at modes
-stores-requires-in-206 c = (c.requires, lit≤ tt, refl)
+stores-requires-in-206 c = (lit≤ tt, refl)
 
 pub keeps-requires-in-208 : goal.keeps-requires-in-208
 unfolding decoded rows operation_at operations mode_at modes
-keeps-requires-in-208 c = (c.requires, lit≤ tt, refl)
+keeps-requires-in-208 c = (lit≤ tt, refl)
 
 pub keeps-requires-in-209 : goal.keeps-requires-in-209
 unfolding decoded rows operation_at operations mode_at modes
-keeps-requires-in-209 c = (c.requires, lit≤ tt, refl)
+keeps-requires-in-209 c = (lit≤ tt, refl)
 
 pub keeps-requires-in-213 : goal.keeps-requires-in-213
 unfolding decoded rows operation_at operations mode_at modes
-keeps-requires-in-213 c = (c.requires, lit≤ tt, refl)
+keeps-requires-in-213 c = (lit≤ tt, refl)
 
 pub stores-requires-in-214 : goal.stores-requires-in-214
 unfolding decoded rows operation_at operations mode_at modes
-stores-requires-in-214 c = (c.requires, lit≤ tt, refl)
+stores-requires-in-214 c = (lit≤ tt, refl)
 
 pub keeps-requires-in-216 : goal.keeps-requires-in-216
 unfolding decoded rows operation_at operations mode_at modes
-keeps-requires-in-216 c = (c.requires, lit≤ tt, refl)
+keeps-requires-in-216 c = (lit≤ tt, refl)
 
 pub keeps-requires-in-217 : goal.keeps-requires-in-217
 unfolding decoded rows operation_at operations mode_at modes
-keeps-requires-in-217 c = (c.requires, lit≤ tt, refl)
+keeps-requires-in-217 c = (lit≤ tt, refl)
 
 pub keeps-requires-in-221 : goal.keeps-requires-in-221
 unfolding decoded rows operation_at operations mode_at modes
-keeps-requires-in-221 c = (c.requires, lit≤ tt, refl)
+keeps-requires-in-221 c = (lit≤ tt, refl)
 
 pub stores-requires-in-222 : goal.stores-requires-in-222
 unfolding decoded rows operation_at operations mode_at modes
-stores-requires-in-222 c = (c.requires, lit≤ tt, refl)
+stores-requires-in-222 c = (lit≤ tt, refl)
 
 pub keeps-requires-in-224 : goal.keeps-requires-in-224
 unfolding decoded rows operation_at operations mode_at modes
-keeps-requires-in-224 c = (c.requires, lit≤ tt, refl)
+keeps-requires-in-224 c = (lit≤ tt, refl)
 
 pub subtracts-requires : goal.subtracts-requires
 unfolding decoded rows operation_at operations mode_at modes
-subtracts-requires c = (c.requires, lit≤ tt)
+subtracts-requires c = lit≤ tt
 
 pub keeps-requires-in-228 : goal.keeps-requires-in-228
 unfolding decoded rows operation_at operations mode_at modes
-keeps-requires-in-228 c = (c.requires, lit≤ tt, refl)
+keeps-requires-in-228 c = (lit≤ tt, refl)
 
 pub subtracts-requires-in-229 : goal.subtracts-requires-in-229
 unfolding decoded rows operation_at operations mode_at modes
-subtracts-requires-in-229 c = (c.requires, lit≤ tt)
+subtracts-requires-in-229 c = lit≤ tt
 
 pub stores-requires-in-230 : goal.stores-requires-in-230
 unfolding decoded rows operation_at operations mode_at modes
-stores-requires-in-230 c = (c.requires, lit≤ tt, refl)
+stores-requires-in-230 c = (lit≤ tt, refl)
 
 pub keeps-requires-in-232 : goal.keeps-requires-in-232
 unfolding decoded rows operation_at operations mode_at modes
-keeps-requires-in-232 c = (c.requires, lit≤ tt, refl)
+keeps-requires-in-232 c = (lit≤ tt, refl)
 
 pub subtracts-requires-in-233 : goal.subtracts-requires-in-233
 unfolding decoded rows operation_at operations mode_at modes
-subtracts-requires-in-233 c = (c.requires, lit≤ tt)
+subtracts-requires-in-233 c = lit≤ tt
 
 pub keeps-requires-in-234 : goal.keeps-requires-in-234
 unfolding decoded rows operation_at operations mode_at modes
-keeps-requires-in-234 c = (c.requires, lit≤ tt, refl)
+keeps-requires-in-234 c = (lit≤ tt, refl)
 
 pub keeps-requires-in-236 : goal.keeps-requires-in-236
 unfolding decoded rows operation_at operations mode_at modes
-keeps-requires-in-236 c = (c.requires, lit≤ tt, refl)
+keeps-requires-in-236 c = (lit≤ tt, refl)
 
 pub subtracts-requires-in-237 : goal.subtracts-requires-in-237
 unfolding decoded rows operation_at operations mode_at modes
-subtracts-requires-in-237 c = (c.requires, lit≤ tt)
+subtracts-requires-in-237 c = lit≤ tt
 
 pub stores-requires-in-238 : goal.stores-requires-in-238
 unfolding decoded rows operation_at operations mode_at modes
-stores-requires-in-238 c = (c.requires, lit≤ tt, refl)
+stores-requires-in-238 c = (lit≤ tt, refl)
 
 pub keeps-requires-in-240 : goal.keeps-requires-in-240
 unfolding decoded rows operation_at operations mode_at modes
-keeps-requires-in-240 c = (c.requires, lit≤ tt, refl)
+keeps-requires-in-240 c = (lit≤ tt, refl)
 
 pub subtracts-requires-in-241 : goal.subtracts-requires-in-241
 unfolding decoded rows operation_at operations mode_at modes
-subtracts-requires-in-241 c = (c.requires, lit≤ tt)
+subtracts-requires-in-241 c = lit≤ tt
 
 pub subtracts-requires-in-245 : goal.subtracts-requires-in-245
 unfolding decoded rows operation_at operations mode_at modes
-subtracts-requires-in-245 c = (c.requires, lit≤ tt)
+subtracts-requires-in-245 c = lit≤ tt
 
 pub stores-requires-in-246 : goal.stores-requires-in-246
 unfolding decoded rows operation_at operations mode_at modes
-stores-requires-in-246 c = (c.requires, lit≤ tt, refl)
+stores-requires-in-246 c = (lit≤ tt, refl)
 
 pub keeps-requires-in-248 : goal.keeps-requires-in-248
 unfolding decoded rows operation_at operations mode_at modes
-keeps-requires-in-248 c = (c.requires, lit≤ tt, refl)
+keeps-requires-in-248 c = (lit≤ tt, refl)
 
 pub subtracts-requires-in-249 : goal.subtracts-requires-in-249
 unfolding decoded rows operation_at operations mode_at modes
-subtracts-requires-in-249 c = (c.requires, lit≤ tt)
+subtracts-requires-in-249 c = lit≤ tt
 
 pub subtracts-requires-in-253 : goal.subtracts-requires-in-253
 unfolding decoded rows operation_at operations mode_at modes
-subtracts-requires-in-253 c = (c.requires, lit≤ tt)
+subtracts-requires-in-253 c = lit≤ tt
 
 pub stores-requires-in-254 : goal.stores-requires-in-254
 unfolding decoded rows operation_at operations mode_at modes
-stores-requires-in-254 c = (c.requires, lit≤ tt, refl)
+stores-requires-in-254 c = (lit≤ tt, refl)
 
 pub returns-in-0 : goal.returns-in-0
 unfolding decoded rows operation_at operations mode_at modes

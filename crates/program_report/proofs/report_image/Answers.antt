@@ -8,4 +8,4 @@ use Rattle.program_report.proofs.report_image.Goals as goal
 pub write_line-requires : goal.write_line-requires
 write_line-requires c =
     let image = c.args.image.now in
-    (omega (arith, c.report-reported.ensures.wrote.ends, line_ends (exec (image_run (length image)) image).0), c.report-reported.ensures.size_le_longest_line, search rules)
+    (omega (arith, c.report-ended.ensures.writes.wrote.ends, line_ends (exec (image_run (length image)) image).0), c.report-ended.ensures.upper_bound, search rules)

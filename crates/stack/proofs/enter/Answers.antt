@@ -1,12 +1,8 @@
 -- The address and the status go on the stack before the vector is read.
 use mathlib.Core.Path.{◌∙◌}
-use native.Mathlib.Omega.{arith}
 use Rattle.registers.specs.State.{flags}
 use Rattle.manual.proofs.Lemmas.InstructionLaws.{enter_gives}
 use Rattle.stack.proofs.enter.Goals as goal
-
-pub shape_of-memory : goal.shape_of-memory
-shape_of-memory c = omega arith
 
 pub returns : goal.returns
 unfolding flags

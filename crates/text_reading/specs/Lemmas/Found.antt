@@ -10,11 +10,11 @@ use Rattle.text_reading.specs.Inner.Characters.{character_at, digit_found}
 use Rattle.text_reading.specs.Found.{found, value_found, place_found}
 
 -- what is none, and what is not, by the place
-none_by : {A : Type 0} (a : A) (b : Bool) → cond b None (Some a) ≡ None → b ≡ true
+pub none_by : {A : Type 0} (a : A) (b : Bool) → cond b None (Some a) ≡ None → b ≡ true
 none_by a true e = refl
 none_by a false e = let z : ◌≡◌ {A = ℕ} 0 1 = cc in absurd (omega arith)
 
-some_by : {A : Type 0} (a q : A) (b : Bool) → cond b None (Some a) ≡ Some q → (b ≡ false) × (a ≡ q)
+pub some_by : {A : Type 0} (a q : A) (b : Bool) → cond b None (Some a) ≡ Some q → (b ≡ false) × (a ≡ q)
 some_by a q true e = let z : ◌≡◌ {A = ℕ} 0 1 = cc in absurd (omega arith)
 some_by a q false e = (refl, cc)
 

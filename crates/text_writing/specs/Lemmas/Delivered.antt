@@ -1,10 +1,10 @@
 -- Laws of Delivered.antt.
-use Rattle.std.specs.Prelude.{ℕ, ◌+◌, ◌≤◌, ◌<◌, ◌≡◌, refl, Bool, true, false, cond, List, ◌++◌, ltb, length, take, drop}
+use Rattle.std.specs.Prelude.{ℕ, ◌+◌, ◌≤◌, ◌<◌, ◌≡◌, refl, Bool, true, false, cond, List, ◌++◌, ltb, length, take, drop, Ok}
 use Rattle.std.proofs.Common.{zero-add, arith, take_at, lt-ltb, le-ltb, ltb-false}
 use Rattle.std.proofs.lemmas.List.Edits.{sets, sets-eq}
 use Rattle.laws.specs.Answers.{not_refused, no_room}
 use Rattle.text_writing.specs.Written.{Wrote}
-use Rattle.text_writing.specs.Delivered.{Delivered, refused, delivered}
+use Rattle.text_writing.specs.Delivered.{Delivered, with_buffer, refused, delivered}
 
 -- the text that stands at the buffer's start
 abbrev pub written : Delivered → List ℕ
@@ -39,3 +39,8 @@ module _ (t buffer : List ℕ) where
           → written (cond b (refused no_room buffer) (record { answer = not_refused; size = length t; buffer = sets buffer 0 t })) ≡ t
       by_room true e y = absurd (omega arith)
       by_room false e y = at_front (ltb-false (length buffer) (length t) e)
+
+-- What the code answers and leaves in the buffer, by where its writer stands in the end and what it left.
+pub told_all : {size at : ℕ} {buffer buffer' : List ℕ} {d : Delivered} → record { answer = not_refused; size = at; buffer = buffer' } ≡ d
+    → size ≡ at → buffer ≡ buffer' → with_buffer (Ok size) buffer ≡ d
+told_all e size-is buffer-is = rw (size-is, buffer-is) e

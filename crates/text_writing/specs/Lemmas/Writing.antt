@@ -1,5 +1,5 @@
 -- Laws of writers, for the proofs of those who write by them.
-use Rattle.std.specs.Prelude.{refl, List, [], ◌∷◌, ◌++◌, ℕ, ◌+◌, ◌≤◌, ◌<◌, length, take, get_or}
+use Rattle.std.specs.Prelude.{◌≡◌, refl, List, [], ◌∷◌, ◌++◌, ℕ, ◌+◌, ◌≤◌, ◌<◌, length, take, get_or}
 use Rattle.std.proofs.Common.{◌∙◌}
 use Rattle.text_writing.specs.Written.{most, Writes}
 use Rattle.text_writing.specs.declared.Writer.{Writer}
@@ -24,3 +24,14 @@ one_more t i h p q = record { same = q.same ∙ p.same; wrote = more_wrote t i h
 
 pub whole_text : (t : List ℕ) (i : ℕ) {w v : Writer} → length t ≤ i → Writes w (take i t) v → Writes w t v
 whole_text t i h p = record { same = p.same; wrote = whole_wrote t i h p.wrote }
+
+-- What is left to write, for a loop whose turns write texts of different lengths: whoever writes t by w has, all in all, written t₀ by w₀.
+abbrev pub Remains : Writer → List ℕ → Writer → List ℕ → Type 0
+Remains w t w₀ t₀ = (v : Writer) → Writes w t v → Writes w₀ t₀ v
+
+-- A part of it is written, and nothing remains.
+pub less_remains : {w w₀ u : Writer} {t s r t₀ : List ℕ} → Remains w t w₀ t₀ → t ≡ s ++ r → Writes w s u → Remains u r w₀ t₀
+less_remains h e p v q = h v (rw e (after p q))
+
+pub none_remains : {w w₀ : Writer} {t t₀ : List ℕ} → Remains w t w₀ t₀ → t ≡ [] → length w.out.now ≤ most → w.at ≤ most → Writes w₀ t₀ w
+none_remains {w} h e f g = h w (rw e (none_written f g))

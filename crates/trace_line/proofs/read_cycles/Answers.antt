@@ -1,13 +1,16 @@
--- The test picks the case of the definition.
-use mathlib.Core.Path.{◌∙◌}
-use borrow.Author.Tests.{eq-eqb, ne_eqb}
+-- By whether a 0 begins the text.
+use Rattle.std.proofs.Common.{◌∙◌, eq-eqb, ne_eqb}
+use Rattle.text_reading.specs.Numbers.{nowhere}
+use Rattle.text_reading.specs.Lemmas.Found.{some, gone_place, got_place, somewhere_place}
 use Rattle.trace_line.specs.Fields.{cycles_of}
 use Rattle.trace_line.proofs.read_cycles.Goals as goal
 
-pub returns-then-zero : goal.returns-then-zero
+pub returns-in-Some : goal.returns-in-Some
 unfolding cycles_of
-returns-then-zero c = c.read_count.ensures ∙ rw (← c.read_mark-zero.ensures, eq-eqb _ _ c.if-zero.true)
+returns-in-Some c =
+    let there = somewhere_place _ c.in-Some.ensures in
+    rw (ne_eqb _ nowhere there, got_place _ c.in-Some.ensures) (some _ (λ z. there (rw (got_place _ c.in-Some.ensures) z)))
 
-pub returns : goal.returns
+pub returns-in-None : goal.returns-in-None
 unfolding cycles_of
-returns c = rw (← c.read_mark-zero.ensures, ne_eqb _ _ c.if-zero.false)
+returns-in-None c = c.read_count.ensures ∙ rw (eq-eqb _ nowhere (gone_place _ c.in-None.ensures))

@@ -1,15 +1,16 @@
 -- Decimal numbers: what `decimal` wrote is read, and what was read was written so.
-use Rattle.std.specs.Prelude.{ℕ, zero, suc, ◌+◌, ◌-◌, ◌*◌, ◌/◌, ◌%◌, ◌<◌, ◌≤◌, ◌^◌, ◌≡◌, Bool, cond, eqb, ltb, length, get_or}
+use Rattle.std.specs.Prelude.{ℕ, zero, suc, ◌+◌, ◌-◌, ◌*◌, ◌/◌, ◌%◌, ◌<◌, ◌≤◌, ◌^◌, ◌≡◌, Bool, cond, eqb, ltb, length, get_or, Some}
 use Rattle.std.proofs.Math.Path.{refl, subst}
 use Rattle.std.proofs.Common.{ap, sym, ◌∙◌}
 use Rattle.std.proofs.Math.Bool.{true, false}
 use mathlib.Core.List.{List, [], ◌∷◌, ◌++◌}
 use native.Mathlib.Omega.{arith}
-use borrow.Author.Tests.{lt-ltb, le-ltb, ltb-true, ltb-false, eqb-true, eqb-false}
+use borrow.Author.Tests.{lt-ltb, ltb-true, ltb-false, eqb-true, eqb-false}
 use Rattle.laws.specs.Lemmas.Agree.{agree}
-use Rattle.text_reading.specs.declared.Byte.{Byte}
-use Rattle.text_reading.specs.declared.Count.{Count}
+use Rattle.text_reading.specs.declared.Reading.{Reading}
 use Rattle.text_reading.specs.Numbers.{nowhere, digit_value, digit_at, count_from, count_at, mark_at}
+use Rattle.text_reading.specs.Found.{found}
+use Rattle.text_reading.specs.Lemmas.Found.{none, some, lost_digit}
 use Rattle.text_reading.specs.Lemmas.Counting.{count_full, count_end, count_more}
 use Rattle.text_writing.specs.Numerals.{digit, decimal}
 use Rattle.text_writing.specs.Lemmas.Texts.{decimal_one, decimal_more, decimal_length}
@@ -53,23 +54,23 @@ module _ (s : List ℕ) (j : ℕ) (below : j < nowhere) (ended : (digit_at 10 s 
       count_full s i v 0 (omega arith) ∙ rw same
   count_there [] (suc k) i v ds p few fits =
       let same : i ≡ j = omega (arith, p.ends) in
-      count_end s i v {d = digit_at 10 s i} refl (suc k) (omega arith) (rw same ended) ∙ rw same
+      count_end s i v (suc k) (none _ (rw same ended)) ∙ rw same
   count_there (c ∷ t) zero i v ds p few fits = absurd (omega arith)
   count_there (c ∷ t) (suc k) i v ds p few fits =
       let code : c ≡ 48 + ds.0.0 = ds.0.2 ∙ digit_code ds.0.0 ds.0.1 in
       let here = subst (λ (x : ℕ). Stands s i (x ∷ []) (i + 1)) ds.0.2 (stands_first s i (c ∷ []) t j p) in
       let read = digit_there 10 s i ds.0.0 (i + 1) (omega arith) ds.0.1 here in
       let value : v * 10 + ds.0.0 ≡ 10 * v + (c - 48) = omega arith in
-      let one : suc k - 1 ≡ k = omega arith in
       let least = value_least t (10 * v + (c - 48)) in
-      count_more s i v {d = record { value = ds.0.0; next = i + 1 }} (sym read) (λ z. omega (arith, p.ends)) (suc k) (omega arith) (omega arith)
-      ∙ rw (one, value) (count_there t k (i + 1) (10 * v + (c - 48)) ds.1 (stands_second s i (c ∷ []) t j p) (omega arith) fits)
+      let found : Some (record { value = ds.0.0; next = i + 1 }) ≡ found (digit_at 10 s i) = rw read (some (record { value = ds.0.0; next = i + 1 }) (λ z. omega (arith, p.ends))) in
+      count_more s i v {d = record { value = ds.0.0; next = i + 1 }} found (suc k) k (10 * v + (c - 48)) (omega arith) (omega arith) (omega arith)
+      ∙ count_there t k (i + 1) (10 * v + (c - 48)) ds.1 (stands_second s i (c ∷ []) t j p) (omega arith) fits
 
   number_there : (t : List ℕ) → 0 < length t → Decimals t → Stands s 0 t j → length t ≤ 20 → value_after 0 t ≤ nowhere
       → count_at s 0 ≡ record { value = value_after 0 t; next = j }
   unfolding count_at
-  number_there [] some ds p few fits = absurd (omega arith)
-  number_there (c ∷ t) some ds p few fits =
+  number_there [] nonempty ds p few fits = absurd (omega arith)
+  number_there (c ∷ t) nonempty ds p few fits =
       let code : c ≡ 48 + ds.0.0 = ds.0.2 ∙ digit_code ds.0.0 ds.0.1 in
       let here = subst (λ (x : ℕ). Stands s 0 (x ∷ []) (0 + 1)) ds.0.2 (stands_first s 0 (c ∷ []) t j p) in
       let value : ds.0.0 ≡ 10 * 0 + (c - 48) = omega arith in
@@ -116,7 +117,7 @@ cycles_there s (suc n) j k h p q =
 -- ---- what was read was written
 
 -- a number with which the text begins
-pub record NumberRead (s : List ℕ) (r : Count) : Type 0 where
+pub record NumberRead (s : List ℕ) (r : Reading ℕ) : Type 0 where
   pub small : r.value < 2 ^ 64
   pub stands : Stands s 0 (decimal r.value) r.next
 
@@ -127,10 +128,10 @@ decimal_next v d h l =
     let last : (v * 10 + d) % 10 ≡ d = omega arith in
     decimal_more (v * 10 + d) (omega arith) ∙ rw (tenth, last)
 
-abbrev more : List ℕ → ℕ → ℕ → Count → Bool → Bool → Count
+abbrev more : List ℕ → ℕ → ℕ → Reading ℕ → Bool → Bool → Reading ℕ
 more s at v next t u = cond t (record { value = v; next = at }) (cond u (record { value = 0; next = nowhere }) next)
 
-count_read_by : (s : List ℕ) (at v : ℕ) (next : Count) (t u : Bool) → v < 2 ^ 64 → Stands s 0 (decimal v) at
+count_read_by : (s : List ℕ) (at v : ℕ) (next : Reading ℕ) (t u : Bool) → v < 2 ^ 64 → Stands s 0 (decimal v) at
     → (t ≡ false → u ≡ false → (next.next ≡ nowhere → ⊥) → NumberRead s next)
     → ((more s at v next t u).next ≡ nowhere → ⊥)
     → NumberRead s (more s at v next t u)
@@ -155,16 +156,12 @@ count_read (suc k) s at v some small p h =
     h
 
 module _ (s : List ℕ) (fits : length s ≤ nowhere) where
-  past_digit : (digit_at 10 s nowhere).next ≡ nowhere
-  unfolding digit_at
-  past_digit = rw (le-ltb nowhere (length s) fits)
-
   some_digit : (b : Bool) → eqb (digit_at 10 s 0).next nowhere ≡ b
       → ((count_from 19 s (digit_at 10 s 0).next (digit_at 10 s 0).value).next ≡ nowhere → ⊥) → (digit_at 10 s 0).next ≡ nowhere → ⊥
   some_digit b e h z =
-      h (rw z (ap (λ (r : Count). r.next) (count_end s nowhere (digit_at 10 s 0).value {d = digit_at 10 s nowhere} refl 19 (omega arith) past_digit)))
+      h (rw z (ap (λ (r : Reading ℕ). r.next) (count_end s nowhere (digit_at 10 s 0).value 19 (none _ (lost_digit s fits 10 nowhere refl)))))
 
-  not_zero : mark_at 48 s 0 ≡ nowhere → (r : Byte) → DigitRead 10 s 0 r → (r.next ≡ nowhere → ⊥) → (b : Bool) → eqb r.value 0 ≡ b → 0 < r.value
+  not_zero : mark_at 48 s 0 ≡ nowhere → (r : Reading ℕ) → DigitRead 10 s 0 r → (r.next ≡ nowhere → ⊥) → (b : Bool) → eqb r.value 0 ≡ b → 0 < r.value
   unfolding digit
   not_zero none r read h true e =
       let zero_there = subst (λ (v : ℕ). Stands s 0 (digit v ∷ []) r.next) (eqb-true r.value 0 e) read.stands in

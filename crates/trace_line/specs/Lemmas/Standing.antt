@@ -5,8 +5,7 @@ use Rattle.std.proofs.Common.{ap, sym, ◌∙◌, add-zero, add-one, length-appe
 use mathlib.Core.List.{List, [], ◌∷◌, ◌++◌, append_assoc}
 use native.Mathlib.Omega.{arith}
 use Rattle.laws.specs.Lemmas.Agree.{agree}
-use Rattle.text_reading.specs.declared.Byte.{Byte}
-use Rattle.text_reading.specs.declared.Word.{Word}
+use Rattle.text_reading.specs.declared.Reading.{Reading}
 use Rattle.text_reading.specs.Numbers.{nowhere, digits, place_in, digit_value, no_digit, digit_at, byte_at, word_at, mark_at}
 use Rattle.text_writing.specs.Numerals.{digit, hex2, hex4}
 use Rattle.trace_line.specs.Fields.{field_at}
@@ -96,7 +95,7 @@ digit_there base s i d j few h p =
     rw (lt-ltb i (length s) o.0, o.1, digit_value_lem d (omega arith), lt-ltb d base h, o.2)
 
 -- a digit that was read
-pub record DigitRead (base : ℕ) (s : List ℕ) (i : ℕ) (r : Byte) : Type 0 where
+pub record DigitRead (base : ℕ) (s : List ℕ) (i : ℕ) (r : Reading ℕ) : Type 0 where
   pub small : r.value < base
   pub stands : Stands s i (digit r.value ∷ []) r.next
 
@@ -128,11 +127,11 @@ module _ (s : List ℕ) (i b j : ℕ) (small : b < 256) (p : Stands s i (hex2 b)
       rw (digit_there 16 s i (b / 16) (i + 1) (omega arith) (omega arith) high, digit_there 16 s (i + 1) (b % 16) j (omega arith) (omega arith) low, both)
 
 -- a byte that was read, and a word
-pub record ByteRead (s : List ℕ) (i : ℕ) (r : Byte) : Type 0 where
+pub record ByteRead (s : List ℕ) (i : ℕ) (r : Reading ℕ) : Type 0 where
   pub small : r.value < 256
   pub stands : Stands s i (hex2 r.value) r.next
 
-pub record WordRead (s : List ℕ) (i : ℕ) (r : Word) : Type 0 where
+pub record WordRead (s : List ℕ) (i : ℕ) (r : Reading ℕ) : Type 0 where
   pub small : r.value < 65536
   pub stands : Stands s i (hex4 r.value) r.next
 
@@ -140,14 +139,14 @@ pub record WordRead (s : List ℕ) (i : ℕ) (r : Word) : Type 0 where
 pub somewhere : (s : List ℕ) (i c j : ℕ) (t : List ℕ) → length s ≤ nowhere → Stands s i (c ∷ t) j → i ≡ nowhere → ⊥
 somewhere s i c j t fits p e = omega (arith, p.ends, p.inside)
 
-two_digits_lem : (s : List ℕ) (i : ℕ) (high low : Byte) → DigitRead 16 s i high → DigitRead 16 s high.next low
+two_digits_lem : (s : List ℕ) (i : ℕ) (high low : Reading ℕ) → DigitRead 16 s i high → DigitRead 16 s high.next low
     → ByteRead s i (record { value = high.value * 16 + low.value; next = low.next })
 two_digits_lem s i high low p q =
     let first : (high.value * 16 + low.value) / 16 ≡ high.value = omega (arith, p.small, q.small) in
     let second : (high.value * 16 + low.value) % 16 ≡ low.value = omega (arith, p.small, q.small) in
     record { small = omega (arith, p.small, q.small); stands = rw (first, second) (stands_then s p.stands q.stands) }
 
-two_bytes : (s : List ℕ) (i : ℕ) (high low : Byte) → ByteRead s i high → ByteRead s high.next low
+two_bytes : (s : List ℕ) (i : ℕ) (high low : Reading ℕ) → ByteRead s i high → ByteRead s high.next low
     → WordRead s i (record { value = high.value * 256 + low.value; next = low.next })
 two_bytes s i high low p q =
     let first : (high.value * 256 + low.value) / 256 ≡ high.value = omega (arith, p.small, q.small) in
@@ -189,7 +188,7 @@ unfolding field_at
 field_there s i b j small p =
     rw (mark_there s 32 i (i + 1) (stands_first s i (32 ∷ []) (hex2 b) j p)) (byte_there s (i + 1) b j small (stands_second s i (32 ∷ []) (hex2 b) j p))
 
-pub record FieldRead (s : List ℕ) (i : ℕ) (r : Byte) : Type 0 where
+pub record FieldRead (s : List ℕ) (i : ℕ) (r : Reading ℕ) : Type 0 where
   pub small : r.value < 256
   pub stands : Stands s i (32 ∷ hex2 r.value) r.next
 

@@ -1,12 +1,11 @@
 -- Lines that are read, and lines that are malformed.
-use Rattle.std.specs.Prelude.{ℕ, ◌≡◌, refl, true, List, [], ◌∷◌, map}
+use Rattle.std.specs.Prelude.{ℕ, ◌≡◌, refl, true, List, [], ◌∷◌, map, Some, None}
 use Rattle.registers.specs.State.{registers_of}
 use Rattle.registers.specs.StatusByte.{status_byte, pulled_status}
 use Rattle.manual.specs.declared.Machine.{Machine}
 use Rattle.manual.specs.Outcomes.{machine_of}
 use Rattle.text_reading.specs.Numbers.{digit_value, digit_at, byte_at, word_at, count_from, count_at, mark_at}
 use Rattle.laws.specs.Characters.{characters}
-use Rattle.trace_line.specs.declared.Line.TheVariants.{State, Malformed}
 use Rattle.trace_line.specs.Fields.{cycles_of, field_at, fields_of, state_of, spelled_by, line_of}
 
 -- cycles, counter, A, X, Y, S and the status byte
@@ -15,9 +14,9 @@ state cycles counter a x y s p = machine_of (registers_of a x y s counter (pulle
 
 -- document 01's example of a report, and the highest count; what follows a line does not matter
 good_lines : map line_of (characters "2 0202 05 00 00 FF 34\n" ∷ characters "18446744073709551615 FFFF 00 01 02 7D FF\nx" ∷ characters "0 0000 00 00 00 00 30\n\n" ∷ [])
-    ≡ State (record { machine = state 2 0x0202 0x05 0x00 0x00 0xFF 0x34; next = 22 })
-    ∷ State (record { machine = state 18446744073709551615 0xFFFF 0x00 0x01 0x02 0x7D 0xFF; next = 41 })
-    ∷ State (record { machine = state 0 0x0000 0x00 0x00 0x00 0x00 0x30; next = 22 })
+    ≡ Some (record { machine = state 2 0x0202 0x05 0x00 0x00 0xFF 0x34; next = 22 })
+    ∷ Some (record { machine = state 18446744073709551615 0xFFFF 0x00 0x01 0x02 0x7D 0xFF; next = 41 })
+    ∷ Some (record { machine = state 0 0x0000 0x00 0x00 0x00 0x00 0x30; next = 22 })
     ∷ []
 unfolding state status_byte pulled_status digit_value digit_at byte_at word_at count_from count_at mark_at cycles_of field_at fields_of state_of spelled_by line_of
 good_lines = refl
@@ -41,6 +40,6 @@ bad =
     ∷ characters "100000000000000000000 0202 05 00 00 FF 34\n"
     ∷ []
 
-bad_lines : map line_of bad ≡ map (λ (s : List ℕ). Malformed) bad
+bad_lines : map line_of bad ≡ map (λ (s : List ℕ). None) bad
 unfolding state status_byte pulled_status digit_value digit_at byte_at word_at count_from count_at mark_at cycles_of field_at fields_of state_of spelled_by line_of
 bad_lines = refl

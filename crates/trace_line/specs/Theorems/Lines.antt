@@ -1,5 +1,5 @@
 -- A text line and its state, there and back: what `machine_fields` wrote is read, what was read was written so, and all else is malformed.
-use Rattle.std.specs.Prelude.{ℕ, ◌+◌, ◌<◌, ◌≤◌, ◌^◌, ◌≡◌, ◌↔◌, Bool, true, false, cond, eqb, length, drop}
+use Rattle.std.specs.Prelude.{ℕ, ◌+◌, ◌<◌, ◌≤◌, ◌^◌, ◌≡◌, ◌↔◌, Bool, true, false, cond, eqb, length, drop, Option, Some, None}
 use Rattle.std.proofs.Math.Path.{refl, ap, subst}
 use Rattle.std.proofs.Common.{sym, ◌∙◌, arith, length-append, drop_at, eq-eqb, ne_eqb, eqb-true}
 use mathlib.Core.List.{List, [], ◌∷◌, ◌++◌, append_assoc}
@@ -7,9 +7,7 @@ use Rattle.std.proofs.lemmas.Bool.{eqb-false}
 use Rattle.registers.specs.StatusByte.{pushed_byte, pulled_status}
 use Rattle.registers.specs.Theorems.RoundTrip.{pulled_pushed, pushed_byte_lem}
 use Rattle.manual.specs.declared.Machine.{Machine}
-use Rattle.text_reading.specs.declared.Byte.{Byte}
-use Rattle.text_reading.specs.declared.Word.{Word}
-use Rattle.text_reading.specs.declared.Count.{Count}
+use Rattle.text_reading.specs.declared.Reading.{Reading}
 use Rattle.text_reading.specs.Numbers.{nowhere}
 use Rattle.laws.specs.Characters.{characters}
 use Rattle.text_writing.specs.Numerals.{hex2, hex4, decimal, spaced}
@@ -17,8 +15,6 @@ use Rattle.text_writing.specs.Lemmas.Texts.{decimal_length}
 use Rattle.trace_fields.specs.Fields.{register_fields, machine_fields}
 use Rattle.trace_line.specs.declared.Fields.{Fields}
 use Rattle.trace_line.specs.declared.Spelled.{Spelled}
-use Rattle.trace_line.specs.declared.Line.{Line}
-use Rattle.trace_line.specs.declared.Line.TheVariants.{State, Malformed}
 use Rattle.trace_line.specs.Fields.{fields_of, state_of, spelled_by, line_of}
 use Rattle.trace_line.specs.Lines.{Spellable, line_text, longest_line}
 use Rattle.trace_line.specs.Lemmas.Standing.{Stands, stands_first, stands_second, stands_then, mark_there, mark_read, somewhere, WordRead, word_there, word_read, FieldRead, field_there, field_read}
@@ -88,7 +84,7 @@ record FieldsRead (s : List ℕ) (f : Fields) : Type 0 where
   stands : Stands s 0 (fields_text f) f.next
 
 module _ (s : List ℕ) (fits : length s ≤ nowhere) where
-  fields_by : (cycles : Count) (counter : Word) (a x y stack status : Byte) (space end : ℕ)
+  fields_by : (cycles : Reading ℕ) (counter : Reading ℕ) (a x y stack status : Reading ℕ) (space end : ℕ)
       → ((cycles.next ≡ nowhere → ⊥) → NumberRead s cycles)
       → ((space ≡ nowhere → ⊥) → Stands s cycles.next (32 ∷ []) space)
       → ((counter.next ≡ nowhere → ⊥) → WordRead s space counter)
@@ -190,11 +186,11 @@ machine_again : (s : Machine) (next : ℕ) → s.nmi ≡ true → state_of (fiel
 unfolding fields_for state_of
 machine_again s next high = rw (pulled_pushed true s.registers.status, ← high)
 
-spelled_there : (s : Machine) (next : ℕ) → s.nmi ≡ true → (next ≡ nowhere → ⊥) → spelled_by (fields_for s next) ≡ State (record { machine = s; next = next })
+spelled_there : (s : Machine) (next : ℕ) → s.nmi ≡ true → (next ≡ nowhere → ⊥) → spelled_by (fields_for s next) ≡ Some (record { machine = s; next = next })
 unfolding spelled_by fields_for
 spelled_there s next high h =
     rw (ne_eqb next nowhere h, pulled_pushed true s.registers.status, eq-eqb (pushed_byte s.registers.status) (pushed_byte s.registers.status) refl)
-    (ap (λ (t : Machine). State (record { machine = t; next = next })) (machine_again s next high))
+    (ap (λ (t : Machine). Some (record { machine = t; next = next })) (machine_again s next high))
 
 small_for : (s : Machine) (next : ℕ) → Spellable s → Small (fields_for s next)
 unfolding fields_for
@@ -209,7 +205,7 @@ small_for s next h = record {
 }
 
 -- What was written is read: the state, and the place after its line, whatever follows.
-pub written_read : (s : Machine) (u : List ℕ) → Spellable s → line_of (line_text s ++ u) ≡ State (record { machine = s; next = length (line_text s) })
+pub written_read : (s : Machine) (u : List ℕ) → Spellable s → line_of (line_text s ++ u) ≡ Some (record { machine = s; next = length (line_text s) })
 unfolding line_of fields_for
 written_read s u h =
     let few = line_short s h.cycles in
@@ -241,14 +237,14 @@ spellable_of f h = record {
 -- the line of a state that was read, and no other
 same_state : (f : Fields) (q : Spelled) (t u : Bool)
     → eqb f.next nowhere ≡ t → eqb (pushed_byte (pulled_status f.status)) f.status ≡ u
-    → cond t Malformed (cond u (State (record { machine = state_of f; next = f.next })) Malformed) ≡ State q
+    → cond t None (cond u (Some (record { machine = state_of f; next = f.next })) None) ≡ Some q
     → (f.next ≡ nowhere → ⊥) × (pushed_byte (pulled_status f.status) ≡ f.status) × (q ≡ record { machine = state_of f; next = f.next })
 same_state f q true u e g h = let z : ◌≡◌ {A = ℕ} 0 1 = cc in absurd (omega arith)
 same_state f q false false e g h = let z : ◌≡◌ {A = ℕ} 0 1 = cc in absurd (omega arith)
 same_state f q false true e g h = (eqb-false f.next nowhere e, eqb-true (pushed_byte (pulled_status f.status)) f.status g, cc)
 
 module _ (s : List ℕ) (fits : length s ≤ nowhere) where
-  written_by : (f : Fields) → ((f.next ≡ nowhere → ⊥) → FieldsRead s f) → (q : Spelled) → spelled_by f ≡ State q → Written s q
+  written_by : (f : Fields) → ((f.next ≡ nowhere → ⊥) → FieldsRead s f) → (q : Spelled) → spelled_by f ≡ Some q → Written s q
   unfolding spelled_by
   written_by f reads q e =
       let same = same_state f q (eqb f.next nowhere) (eqb (pushed_byte (pulled_status f.status)) f.status) refl refl e in
@@ -263,25 +259,25 @@ module _ (s : List ℕ) (fits : length s ≤ nowhere) where
         inside = stands.inside;
       })
 
-  pub read_written : (q : Spelled) → line_of s ≡ State q → Written s q
+  pub read_written : (q : Spelled) → line_of s ≡ Some q → Written s q
   unfolding line_of
   read_written q e = written_by (fields_of s) (fields_read s fits) q e
 
   -- Malformed is exactly what no state is written as.
-  not_state : (q : Spelled) → State q ≡ Malformed → ⊥
+  not_state : (q : Spelled) → Some q ≡ None → ⊥
   not_state q e = let z : ◌≡◌ {A = ℕ} 0 1 = cc in omega arith
 
-  read_none : (r : Line) → line_of s ≡ r → ((t : Machine) (u : List ℕ) → Spellable t → s ≡ line_text t ++ u → ⊥) → r ≡ Malformed
-  read_none Malformed e h = refl
-  read_none (State q) e h = let w = read_written q e in absurd (h q.machine (drop q.next s) w.spellable w.text)
+  read_none : (r : Option Spelled) → line_of s ≡ r → ((t : Machine) (u : List ℕ) → Spellable t → s ≡ line_text t ++ u → ⊥) → r ≡ None
+  read_none None e h = refl
+  read_none (Some q) e h = let w = read_written q e in absurd (h q.machine (drop q.next s) w.spellable w.text)
 
-  pub malformed : (line_of s ≡ Malformed) ↔ ((t : Machine) (u : List ℕ) → Spellable t → s ≡ line_text t ++ u → ⊥)
+  pub malformed : (line_of s ≡ None) ↔ ((t : Machine) (u : List ℕ) → Spellable t → s ≡ line_text t ++ u → ⊥)
   malformed = (
     (λ e t u h g. not_state _ (sym (ap line_of g ∙ written_read t u h) ∙ e)),
     (λ h. read_none (line_of s) refl h),
   )
 
-state_same : (p q : Spelled) → State p ≡ State q → p ≡ q
+state_same : (p q : Spelled) → Some p ≡ Some q → p ≡ q
 state_same p q e = cc
 
 -- A line spells one state only.

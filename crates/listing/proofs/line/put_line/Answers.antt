@@ -1,6 +1,6 @@
 -- What stands there, and the end of the line.
-use Rattle.text_writing.specs.Lemmas.Texts.{then}
+use Rattle.text_writing.specs.Lemmas.Writing.{after}
 use Rattle.listing.proofs.line.put_line.Goals as goal
 
 pub returns : goal.returns
-returns c = then c.put_instruction-after_instruction.ensures c.put_byte.ensures
+returns c = after c.put_instruction.ensures c.put_byte.ensures

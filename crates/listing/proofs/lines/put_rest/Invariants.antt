@@ -1,17 +1,8 @@
--- The loop's invariant: the lines that are left are those from the address on.
-use Prim.Native.Nat.{◌≤◌, ◌-◌}
-use mathlib.Core.Path.{◌≡◌}
-use lib.ListN.{length}
-use Rattle.text_writing.specs.Written.{most}
-use Rattle.text_writing.specs.Lemmas.Left.{Left}
+-- The lines so far are written.
+use Prim.Native.Nat.{◌-◌}
+use Rattle.text_writing.specs.Written.{Writes}
 use Rattle.listing.specs.Lines.{unknown, texts}
 use Rattle.listing.proofs.lines.put_rest.Given as goal
 
 abbrev pub invariant-loop-address : goal.invariant-loop-address
-invariant-loop-address l = (length l.out ≡ length l.initial.out)
-    × (l.address ≤ l.end)
-    × (l.next ≤ most)
-    × Left l.out l.next (texts (unknown l.memory l.address (l.end - l.address))) l.initial.out l.at (texts (unknown l.memory l.start (l.end - l.start)))
-
-abbrev pub decreases-loop-address : goal.decreases-loop-address
-decreases-loop-address l = l.end - l.address
+invariant-loop-address l = Writes l.fn.out (texts (unknown l.memory l.start (l.address - l.start))) l.out

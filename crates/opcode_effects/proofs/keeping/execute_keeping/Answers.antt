@@ -40,7 +40,7 @@ the_others RTI mode read modify branch internal jmp pla plp rti rts = absurd (rt
 the_others RTS mode read modify branch internal jmp pla plp rti rts = absurd (rts refl)
 
 pub modify_accumulator-requires : goal.modify_accumulator-requires
-modify_accumulator-requires c = eqb-true _ _ (not-false _ (rw c.in-Modify.is at c.requires.1))
+modify_accumulator-requires c = eqb-true _ _ (not-false _ (rw c.in-Modify.is at c.requires))
 
 pub returns-in-Read : goal.returns-in-Read
 returns-in-Read c = rw c.in-Read.is c.read.ensures
@@ -70,4 +70,4 @@ pub returns-in-RTS : goal.returns-in-RTS
 returns-in-RTS c = rw c.in-RTS.is c.return_from_subroutine.ensures
 
 pub returns-in_default : goal.returns-in_default
-returns-in_default c = absurd (true≢false (sym (the_others c.args.instruction c.args.mode c.in_default.not-Read c.in_default.not-Modify c.in_default.not-Branch c.in_default.not-Internal c.in_default.not-JMP c.in_default.not-PLA c.in_default.not-PLP c.in_default.not-RTI c.in_default.not-RTS) ∙ c.requires.1))
+returns-in_default c = absurd (true≢false (sym (the_others c.args.instruction c.args.mode c.in_default.not-Read c.in_default.not-Modify c.in_default.not-Branch c.in_default.not-Internal c.in_default.not-JMP c.in_default.not-PLA c.in_default.not-PLP c.in_default.not-RTI c.in_default.not-RTS) ∙ c.requires))

@@ -34,7 +34,7 @@ the_others RTI mode store modify brk jsr pha php = refl
 the_others RTS mode store modify brk jsr pha php = refl
 
 pub modify-requires : goal.modify-requires
-modify-requires c = (c.requires.0, eqb-false _ _ (not-true _ (rw c.in-Modify.is at c.requires.1)))
+modify-requires c = eqb-false _ _ (not-true _ (rw c.in-Modify.is at c.requires))
 
 pub returns-in-Store : goal.returns-in-Store
 returns-in-Store c = rw c.in-Store.is c.store.ensures
@@ -55,4 +55,4 @@ pub returns-in-PHP : goal.returns-in-PHP
 returns-in-PHP c = rw c.in-PHP.is c.push_status.ensures
 
 pub returns-in_default : goal.returns-in_default
-returns-in_default c = absurd (true≢false (sym c.requires.1 ∙ the_others c.args.instruction c.args.mode c.in_default.not-Store c.in_default.not-Modify c.in_default.not-BRK c.in_default.not-JSR c.in_default.not-PHA c.in_default.not-PHP))
+returns-in_default c = absurd (true≢false (sym c.requires ∙ the_others c.args.instruction c.args.mode c.in_default.not-Store c.in_default.not-Modify c.in_default.not-BRK c.in_default.not-JSR c.in_default.not-PHA c.in_default.not-PHP))

@@ -12,14 +12,14 @@ use Rattle.opcode_effects.proofs.storing.stores.Goals as goal
 -- the instruction's effect
 
 pub execute_storing-requires : goal.execute_storing-requires
-execute_storing-requires c = (c.requires.0, rw (c.storing_at.ensures ∙ storing_at_lem _ _ c.requires.2, c.mode_at.ensures) c.requires.2)
+execute_storing-requires c = rw (c.storing_at.ensures ∙ storing_at_lem _ _ c.requires.1, c.mode_at.ensures) c.requires.1
 
 pub counted-requires : goal.counted-requires
 counted-requires c =
-    let gives : Gives (perform (operation_at c.args.operation) (mode_at c.args.mode) c.args.registers) c.args.memory.now c.execute_storing.result c.execute_storing.new.memory = rw (c.storing_at.ensures ∙ storing_at_lem _ _ c.requires.2, c.mode_at.ensures) at c.execute_storing.ensures in
-    omega (arith, extra_of _ _ _ _ gives, c.requires.1)
+    let gives : Gives (perform (operation_at c.args.operation) (mode_at c.args.mode) c.args.registers) c.args.memory.now c.execute_storing.result c.execute_storing.new.memory = rw (c.storing_at.ensures ∙ storing_at_lem _ _ c.requires.1, c.mode_at.ensures) at c.execute_storing.ensures in
+    omega (arith, extra_of _ _ _ _ gives, c.requires.0)
 
 pub returns : goal.returns
 returns c =
-    let gives : Gives (perform (operation_at c.args.operation) (mode_at c.args.mode) c.args.registers) c.args.memory.now c.execute_storing.result c.execute_storing.new.memory = rw (c.storing_at.ensures ∙ storing_at_lem _ _ c.requires.2, c.mode_at.ensures) at c.execute_storing.ensures in
+    let gives : Gives (perform (operation_at c.args.operation) (mode_at c.args.mode) c.args.registers) c.args.memory.now c.execute_storing.result c.execute_storing.new.memory = rw (c.storing_at.ensures ∙ storing_at_lem _ _ c.requires.1, c.mode_at.ensures) at c.execute_storing.ensures in
     entry_performed _ _ _ gives ∙ rw c.counted.ensures
