@@ -9,6 +9,7 @@ use console::Console;
 use manual::Ended;
 use sentences::{LONGEST_SENTENCE, put_refused, put_sentence};
 use statuses::{Goal, end_status};
+use text_writing::Writer;
 
 // Says how the run of the image that an argument names ended, and answers the status of that end. `image` is the one that the
 // run left.
@@ -17,7 +18,9 @@ pub fn say_ending(console: &mut Console, index: usize, goal: Goal, ended: Ended,
     ensures failure_stays { FailureStays console.old.failed console.new.failed }
 {
     let mut text = [0u8; LONGEST_SENTENCE];
-    let size = put_sentence(&mut text, 0, goal, ended, image);
+    let mut out = Writer::new(&mut text);
+    put_sentence(&mut out, goal, ended, image);
+    let size = out.place();
     console.say_of(index, &text[..size]);
     end_status(goal, ended)
 }
@@ -27,6 +30,8 @@ pub fn say_refused(console: &mut Console, index: usize, image: &[u8])
     ensures { FailureStays console.old.failed console.new.failed }
 {
     let mut text = [0u8; LONGEST_SENTENCE];
-    let size = put_refused(&mut text, 0, image);
+    let mut out = Writer::new(&mut text);
+    put_refused(&mut out, image);
+    let size = out.place();
     console.say_of(index, &text[..size]);
 }

@@ -6,7 +6,7 @@ ghost use Rattle.statuses.specs.Statuses.{first_of};
 ghost use Rattle.console.specs.Failing.{FailureStays};
 ghost use Rattle.console_showing.specs.Status.{run_status};
 
-use console::{Console, Done, wipe_progress};
+use console::{Console, Done, count_argument, name_from, refuse, wipe_progress};
 use console_ending::say_ending;
 use lines::show_run;
 use memory::image_buffer;
@@ -14,6 +14,9 @@ use statuses::{Goal, first_of};
 use trace_text::View;
 
 mod lines; // lines.rt: the run, with its lines
+mod parts; // parts.rt: a run that is made part by part
+
+pub use parts::{Parts, run_in_parts};
 
 // Shows the run of an image, says how it ended, and answers its status. If its lines cannot be written nothing is said of it.
 fn show_image(
@@ -54,23 +57,20 @@ fn show_argument(
     let size = console.read_two(index, input, image);
     if console.failed != 0 {
         return Done {
-            size: size,
+            size,
             status: console.failed,
         };
     }
     let status = show_image(console, index, view, goal, count, &mut image[..size]);
-    Done {
-        size: size,
-        status: status,
-    }
+    Done { size, status }
 }
 
 // The same, with room for the image.
-pub fn show_input(rt: HostRuntime, index: usize, view: View, goal: Goal, count: u64) -> u8 {
+fn show_input(rt: HostRuntime, index: usize, view: View, goal: Goal, count: u64) -> u8 {
     let mut input = image_buffer();
     let mut image = image_buffer();
     let mut console = Console::new(rt);
-    let done = show_argument(
+    show_argument(
         &mut console,
         index,
         view,
@@ -78,6 +78,23 @@ pub fn show_input(rt: HostRuntime, index: usize, view: View, goal: Goal, count: 
         count,
         &mut input,
         &mut image,
-    );
-    done.status
+    )
+    .status
+}
+
+// Shows the run that the arguments from an index on ask for, the number of its steps and its image, and answers its status. If
+// they are not these it says what the program takes.
+pub fn show_by_arguments(
+    rt: HostRuntime,
+    from: usize,
+    view: View,
+    goal: Goal,
+    usage: &[u8],
+) -> u8
+    requires { from ≤ 254 }
+{
+    match (count_argument(rt, from), name_from(rt, from + 1)) {
+        (Some(count), Some(index)) => show_input(rt, index, view, goal, count),
+        _ => refuse(rt, usage),
+    }
 }

@@ -33,11 +33,10 @@ pub fn run_cycles(machine: Machine, limit: u64, lines: Lines, memory: &mut [u8])
     while after.cycles - from < limit {
         let left = limit - (after.cycles - from);
         let ended = long_run(after, sure_steps(left), lines, memory);
-        let reason = ended.reason;
         after = ended.machine;
         steps += ended.steps;
-        if !reason.is_made() {
-            return Ended::new(reason, steps, after);
+        if !ended.reason.is_made() {
+            return Ended::new(ended.reason, steps, after);
         }
     }
     Ended::new(Reason::Made, steps, after)

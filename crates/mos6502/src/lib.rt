@@ -108,10 +108,9 @@ fn advance(
         memory,
     );
     let ended = turned.ended;
-    let reason = ended.reason;
     *steps = ended.steps;
     hand_back(0 < ended.steps, ended.machine, registers, cycles);
-    u8::from(reason)
+    u8::from(ended.reason)
 }
 
 // A turn of at most `bound` steps on numbers: with IRQ high as many as there is room for, and with IRQ low one. With one call for the
@@ -189,10 +188,10 @@ pub fn mos6502_run(
         (record { answer = result; steps = steps.new; registers = registers.new; cycles = cycles.new })
         memory.new }
 {
-    if memory.len() != FULL_MEMORY {
+    let Some(memory) = memory.as_mut_array::<FULL_MEMORY>() else {
         *steps = 0;
         return MEMORY_NOT_FULL;
-    }
+    };
     if HIGHEST_BOUND < bound {
         *steps = 0;
         return BOUND_TOO_HIGH;
@@ -213,10 +212,10 @@ pub fn mos6502_long_run(
         (record { answer = result; steps = steps.new; registers = registers.new; cycles = cycles.new })
         memory.new }
 {
-    if memory.len() != FULL_MEMORY {
+    let Some(memory) = memory.as_mut_array::<FULL_MEMORY>() else {
         *steps = 0;
         return MEMORY_NOT_FULL;
-    }
+    };
     go_on(registers, cycles, steps, bound, lines, memory)
 }
 
@@ -234,10 +233,10 @@ pub fn mos6502_run_cycles(
         (record { answer = result; steps = steps.new; registers = registers.new; cycles = cycles.new })
         memory.new }
 {
-    if memory.len() != FULL_MEMORY {
+    let Some(memory) = memory.as_mut_array::<FULL_MEMORY>() else {
         *steps = 0;
         return MEMORY_NOT_FULL;
-    }
+    };
     if HIGHEST_BOUND < limit {
         *steps = 0;
         return BOUND_TOO_HIGH;

@@ -25,10 +25,10 @@ pub extern "C" fn mos6502_step(
         (record { answer = result; first = first.new; registers = registers.new; cycles = cycles.new })
         memory.new }
 {
-    if memory.len() != FULL_MEMORY {
+    let Some(memory) = memory.as_mut_array::<FULL_MEMORY>() else {
         *first = 0;
         return MEMORY_NOT_FULL;
-    }
+    };
     let turned = turn(
         machine_from(*registers, *cycles),
         1,
@@ -37,9 +37,8 @@ pub extern "C" fn mos6502_step(
     );
     *first = turned.first;
     let ended = turned.ended;
-    let reason = ended.reason;
     hand_back(0 < ended.steps, ended.machine, registers, cycles);
-    u8::from(reason)
+    u8::from(ended.reason)
 }
 
 // The version of these functions. A host asks for it by this name, so that an older archive does not link, and the linker says

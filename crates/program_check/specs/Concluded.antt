@@ -1,13 +1,12 @@
 -- The status of a log that was checked part by part.
-use Rattle.std.specs.Prelude.{◌≡◌, ℕ, ◌≤◌, List, length}
+use Rattle.std.specs.Prelude.{◌≡◌, ℕ, ◌≤◌, List, length, None}
 use Rattle.text_reading.specs.Numbers.{nowhere}
 use Rattle.statuses.specs.Statuses.{log_status, first_of}
-use Rattle.trace_checking.specs.declared.Last.TheVariants.{Start}
 use Rattle.trace_checking.specs.Checking.{checked_part}
 
 -- by the check of the whole text
 abbrev pub text_status : List ℕ → List ℕ → ℕ
-text_status image text = log_status (length image) (checked_part Start image text).0.answer (checked_part Start image text).0.lines
+text_status image text = log_status (length image) (checked_part None image text).0.answer (checked_part None image text).0.lines
 
 -- some text was read, and this is its status, if nothing failed
 abbrev pub Concludes : List ℕ → ℕ → ℕ → Type 0

@@ -1,5 +1,6 @@
 -- The run of a file by go, its status, and the file that it leaves.
-use Rattle.std.specs.Prelude.{ℕ, List, length}
+use Rattle.std.specs.Prelude.{ℕ, List, length, Option, Some, None}
+use Rattle.manual.specs.declared.Machine.{Machine}
 use Rattle.manual.specs.declared.Ended.{Ended}
 use Rattle.manual.specs.Micro.{Micro, exec}
 use Rattle.manual.specs.Interrupts.{idle}
@@ -7,14 +8,12 @@ use Rattle.manual.specs.Stepping.{long_run}
 use Rattle.statuses.specs.declared.Goal.{Goal}
 use Rattle.statuses.specs.Statuses.{end_status}
 use Rattle.image_run.specs.Report.{long_image_run}
-use Rattle.image_halted.specs.declared.Start.{Start}
-use Rattle.image_halted.specs.declared.Start.TheVariants.{Image, From}
 use Rattle.image_halted.specs.Halted.{start_of, memory_of, after_file}
 
 -- it begins as the image's own program does, or goes on from the state of a run that was halted
-abbrev pub run_from : Start → ℕ → ℕ → Micro Ended
-run_from Image steps size = long_image_run steps size
-run_from (From s) steps size = long_run size steps idle s
+abbrev pub run_from : Option Machine → ℕ → ℕ → Micro Ended
+run_from None steps size = long_image_run steps size
+run_from (Some s) steps size = long_run size steps idle s
 
 -- how it ends, and the memory after it
 unfoldable pub file_run : ℕ → List ℕ → Ended × List ℕ

@@ -37,6 +37,7 @@ use memory::image_buffer;
 use running::run_from;
 use sentences::{LONGEST_LINE, put_line};
 use statuses::{Goal, WRONG_USAGE, first_of};
+use text_writing::Writer;
 
 mod running; // running.rt: the run of a file
 
@@ -44,7 +45,9 @@ fn print_line(console: &mut Console, ended: Ended)
     ensures { FailureStays console.old.failed console.new.failed }
 {
     let mut text = [0u8; LONGEST_LINE];
-    let size = put_line(&mut text, 0, ended);
+    let mut out = Writer::new(&mut text);
+    put_line(&mut out, ended);
+    let size = out.place();
     console.write_output(&text[..size]);
 }
 
@@ -81,16 +84,14 @@ fn go_file(
 {
     let opened = open(input);
     let size = opened.size;
-    let start = opened.start;
-    let ended = run_from(console.rt, start, steps, &mut image[..size]);
+    let ended = run_from(console.rt, opened.start, steps, &mut image[..size]);
     wipe_progress(console.rt);
     print_line(console, ended);
     let status = say_ending(console, names.image, goal, ended, &image[..size]);
     if first_of(console.failed, status) != 0 {
         return not_written(console, names.after, status);
     }
-    let machine = ended.machine;
-    let after_size = put_after(image, goal, machine);
+    let after_size = put_after(image, goal, ended.machine);
     keep(
         console,
         names.after,
@@ -117,15 +118,12 @@ fn go_argument(
     let size = read_and_test(console, names, input, image);
     if console.failed != 0 {
         return Done {
-            size: size,
+            size,
             status: console.failed,
         };
     }
     let status = go_file(console, names, goal, steps, &input[..size], image);
-    Done {
-        size: size,
-        status: status,
-    }
+    Done { size, status }
 }
 
 fn go(rt: HostRuntime, names: Names, steps: u64, goal: Goal) -> u8 {
@@ -138,8 +136,7 @@ fn go(rt: HostRuntime, names: Names, steps: u64, goal: Goal) -> u8 {
     let mut input = image_buffer();
     let mut image = image_buffer();
     let mut console = Console::new(rt);
-    let done = go_argument(&mut console, names, goal, steps, &mut input, &mut image);
-    done.status
+    go_argument(&mut console, names, goal, steps, &mut input, &mut image).status
 }
 
 fn go_by_arguments(rt: HostRuntime) -> u8 {

@@ -8,16 +8,11 @@ ghost use Rattle.program_go.specs.Runs.{run_from};
 
 use console::show_progress;
 use cpu::long_run;
-use image_halted::Start;
 use image_run::start_image;
 use manual::{Ended, Lines, Machine};
 
 // Few enough that the line at the terminal is renewed several times a second.
 const PART: u64 = 10000000;
-
-fn show(rt: HostRuntime, made: u64) {
-    show_progress(rt, b"go", made, b"steps");
-}
 
 // A run of at most `steps` steps, with idle lines.
 fn run_on(rt: HostRuntime, start: Machine, steps: u64, image: &mut [u8]) -> Ended
@@ -27,17 +22,21 @@ fn run_on(rt: HostRuntime, start: Machine, steps: u64, image: &mut [u8]) -> Ende
     let mut made: u64 = 0;
     while PART < steps - made {
         let ended = long_run(machine, PART, Lines::idle(), image);
-        let reason = ended.reason;
-        if !reason.is_made() {
-            return Ended::new(reason, made + ended.steps, ended.machine);
+        if !ended.reason.is_made() {
+            return Ended {
+                steps: made + ended.steps,
+                ..ended
+            };
         }
         machine = ended.machine;
         made += PART;
-        show(rt, made);
+        show_progress(rt, b"go", made, b"steps");
     }
     let last = long_run(machine, steps - made, Lines::idle(), image);
-    let reason = last.reason;
-    Ended::new(reason, made + last.steps, last.machine)
+    Ended {
+        steps: made + last.steps,
+        ..last
+    }
 }
 
 fn run_image(rt: HostRuntime, steps: u64, image: &mut [u8]) -> Ended
@@ -48,11 +47,16 @@ fn run_image(rt: HostRuntime, steps: u64, image: &mut [u8]) -> Ended
 }
 
 // A run of at most `steps` steps from where a file begins, with idle lines.
-pub(crate) fn run_from(rt: HostRuntime, start: Start, steps: u64, image: &mut [u8]) -> Ended
+pub(crate) fn run_from(
+    rt: HostRuntime,
+    start: Option<Machine>,
+    steps: u64,
+    image: &mut [u8],
+) -> Ended
     ensures { Gives (run_from start steps (length image.old)) image.old result image.new }
 {
     match start {
-        Start::Image => run_image(rt, steps, image),
-        Start::From(machine) => run_on(rt, machine, steps, image),
+        Some(machine) => run_on(rt, machine, steps, image),
+        None => run_image(rt, steps, image),
     }
 }

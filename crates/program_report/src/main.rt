@@ -14,11 +14,11 @@
 // What the line, the sentence and the status say is promised by image.rt, and by the crates sentences and statuses.
 #![tactic(auto)]
 
-ghost use Rattle.std.specs.Prelude.{◌-◌, ◌<◌, ◌≤◌, ◌≡◌, length, take};
+ghost use Rattle.std.specs.Prelude.{◌+◌, ◌<◌, ◌≤◌, ◌≡◌, length, take};
 ghost use Rattle.statuses.specs.Statuses.{first_of};
 ghost use Rattle.console.specs.Failing.{FailureStays};
 ghost use Rattle.program_report.specs.Status.{image_status};
-ghost use Rattle.program_report.specs.Named.{WroteAfter, longest_named};
+ghost use Rattle.program_report.specs.Named.{WritesAfter, longest_named};
 ghost use Rattle.sentences.specs.Line.{longest_line};
 
 use console::{
@@ -29,21 +29,21 @@ use image::report;
 use memory::image_buffer;
 use sentences::LONGEST_LINE;
 use statuses::{Goal, WRONG_USAGE, first_of};
-use text_writing::{put_byte, put_text};
+use text_writing::Writer;
 
 mod image; // image.rt: the run of an image, and its line
 
 // The most characters that a line has with a name after it, in place of its end: two spaces, the name and the end.
 const LONGEST_NAMED: usize = LONGEST_LINE + 4098;
 
-// Puts the name of an argument after a line of so many characters, in place of its end.
-fn put_after(rt: HostRuntime, index: usize, text: &mut [u8], size: usize) -> usize
-    requires { (0 < size) × (size ≤ longest_line) }
-    ensures { WroteAfter text.old (size - 1) text.new result }
+// Puts the name of an argument in place of a line's end, and the end after it.
+fn put_after(rt: HostRuntime, out: &mut Writer, index: usize)
+    ensures writes_after { WritesAfter out.old out.new }
+    ensures upper_bound { out.new.at ≤ out.old.at + 4099 }
 {
-    let after_spaces = put_text(text, size - 1, b"  ");
-    let after_name = put_name(rt, text, after_spaces, index);
-    put_byte(text, after_name, b'\n')
+    out.put_text(b"  ");
+    put_name(rt, out, index);
+    out.put_byte(b'\n');
 }
 
 // Writes a line of so many characters, with the name after it if there are several.
@@ -52,11 +52,13 @@ fn write_line(console: &mut Console, index: usize, several: bool, text: &mut [u8
     ensures { FailureStays console.old.failed console.new.failed }
 {
     if several {
-        let end = put_after(console.rt, index, text, size);
+        let mut out = Writer::from(text, size - 1);
+        put_after(console.rt, &mut out, index);
+        let end = out.place();
         console.write_output(&text[..end]);
-        return;
+    } else {
+        console.write_output(&text[..size]);
     }
-    console.write_output(&text[..size]);
 }
 
 // Reports an image that was read, and answers its status; if that failed, it is not run.
@@ -74,9 +76,10 @@ fn report_image(
         return console.failed;
     }
     let mut text = [0u8; LONGEST_NAMED];
-    let reported = report(image, &mut text);
-    let ended = reported.ended;
-    write_line(console, index, several, &mut text, reported.size);
+    let mut out = Writer::new(&mut text);
+    let ended = report(image, &mut out);
+    let size = out.place();
+    write_line(console, index, several, &mut text, size);
     let status = say_ending(console, index, goal, ended, image);
     first_of(console.failed, status)
 }

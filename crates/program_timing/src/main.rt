@@ -20,9 +20,12 @@ use console_showing::show_by_arguments;
 use statuses::WRONG_USAGE;
 use trace_text::View;
 
+const USAGE: &[u8] =
+    b"timing: give the number of steps, in decimal, and one image; ./run timing --help\n";
+
 fn time_by_arguments(rt: HostRuntime) -> u8 {
     match stop_option(rt, b"timing") {
-        Some((from, goal)) => show_by_arguments(rt, b"timing", from, View::Steps, goal),
+        Some((from, goal)) => show_by_arguments(rt, from, View::Steps, goal, USAGE),
         None => WRONG_USAGE,
     }
 }

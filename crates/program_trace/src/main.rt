@@ -20,6 +20,15 @@ use console_showing::show_by_arguments;
 use statuses::Goal;
 use trace_text::View;
 
+const USAGE: &[u8] =
+    b"trace: give the number of steps, in decimal, and one image; ./run trace --help\n";
+
 fn main(rt: HostRuntime) {
-    hand_over(show_by_arguments(rt, b"trace", 1, View::States, Goal::AllSteps));
+    hand_over(show_by_arguments(
+        rt,
+        1,
+        View::States,
+        Goal::AllSteps,
+        USAGE,
+    ));
 }

@@ -1,37 +1,34 @@
 // The line of a run's answer.
 ghost use Rattle.std.specs.Prelude.{◌+◌, ◌≤◌};
-ghost use Rattle.text_writing.specs.Written.{Wrote};
+ghost use Rattle.text_writing.specs.Written.{Writes};
 ghost use Rattle.sentences.specs.Line.{all_fields, line, longest_line};
 
-use laws::answers::*;
-use manual::Ended;
-use text_writing::{put_byte, put_decimal, put_spaced_decimal, put_text};
+use manual::{Ended, Reason};
+use text_writing::Writer;
 use trace_fields::put_machine;
 
 // The most characters that the line has.
 pub const LONGEST_LINE: usize = 64;
 
-fn put_fields(out: &mut [u8], at: usize, ended: Ended) -> usize
-    ensures wrote { Wrote out.old at (all_fields ended) out.new result }
-    ensures upper_bound { result ≤ at + longest_line }
+fn put_fields(out: &mut Writer, ended: Ended)
+    ensures wrote { Writes out.old (all_fields ended) out.new }
+    ensures upper_bound { out.new.at ≤ out.old.at + longest_line }
 {
-    let reason = ended.reason;
-    let machine = ended.machine;
-    let after_reason = put_decimal(out, at, u8::from(reason) as u64);
-    let after_steps = put_spaced_decimal(out, after_reason, ended.steps);
-    let after_space = put_byte(out, after_steps, b' ');
-    let after_machine = put_machine(out, after_space, machine);
-    put_byte(out, after_machine, b'\n')
+    out.put_decimal(u8::from(ended.reason) as u64);
+    out.put_spaced_decimal(ended.steps);
+    out.put_byte(b' ');
+    put_machine(out, ended.machine);
+    out.put_byte(b'\n');
 }
 
 // Writes the line.
-pub fn put_line(out: &mut [u8], at: usize, ended: Ended) -> usize
-    ensures wrote { Wrote out.old at (line ended) out.new result }
-    ensures upper_bound { result ≤ at + longest_line }
+pub fn put_line(out: &mut Writer, ended: Ended)
+    ensures wrote { Writes out.old (line ended) out.new }
+    ensures upper_bound { out.new.at ≤ out.old.at + longest_line }
 {
-    let reason = ended.reason;
-    if u8::from(reason) == MEMORY_NOT_FULL {
-        return put_text(out, at, b"1\n");
+    if let Reason::MemoryNotFull = ended.reason {
+        out.put_text(b"1\n");
+    } else {
+        put_fields(out, ended);
     }
-    put_fields(out, at, ended)
 }

@@ -1,5 +1,5 @@
 -- A text that is delivered into a lent buffer, with an answer and its length, or refused.
-use Rattle.std.specs.Prelude.{ℕ, cond, List, ltb, length, Result, Ok, Err}
+use Rattle.std.specs.Prelude.{ℕ, cond, List, ltb, length, Option, Some, None, Result, Ok, Err}
 use Rattle.std.proofs.lemmas.List.Edits.{sets}
 use Rattle.laws.specs.Answers.{not_refused, no_room, answer_of}
 use Rattle.laws.specs.declared.answers.Refusal.{Refusal}
@@ -9,6 +9,11 @@ pub record Delivered : Type 0 where
   pub answer : ℕ
   pub size : ℕ
   pub buffer : List ℕ
+
+-- the answer's number of what may be refused
+abbrev pub answer_in : Option Refusal → ℕ
+answer_in None = not_refused
+answer_in (Some refusal) = answer_of refusal
 
 -- the answer's number and the length of the text, of what the code answers
 abbrev pub numbers_of : Result ℕ Refusal → ℕ × ℕ

@@ -3,7 +3,7 @@
 #![tactic(auto)]
 
 ghost use Rattle.std.specs.Prelude.{◌≡◌, ◌≤◌, length};
-ghost use Rattle.text_writing.specs.Delivered.{numbers_of};
+ghost use Rattle.text_writing.specs.Delivered.{answer_in, numbers_of};
 
 use laws::answers::{NOT_REFUSED, Refusal};
 
@@ -16,6 +16,16 @@ pub struct Writer<'a> {
     at: usize,
     // neither the buffer's end nor the place lies past the largest usize
     ghost bounded: { (length out.now ≤ 18446744073709551615) × (at ≤ 18446744073709551615) },
+}
+
+// The number of the answer to what may be refused.
+pub fn answer_in(refusal: Option<Refusal>) -> u8
+    ensures { result ≡ answer_in refusal }
+{
+    match refusal {
+        None => NOT_REFUSED,
+        Some(refusal) => refusal.into(),
+    }
 }
 
 // What a host in C is told of a text that was delivered into its buffer: the answer, and the length of the text, 0 if it is refused.

@@ -3,99 +3,77 @@
 #![tactic(auto)]
 
 ghost use Rattle.std.specs.Prelude.{◌≡◌, ◌≤◌, ◌<◌, length};
+ghost use Rattle.text_writing.specs.Delivered.{answer_in};
 ghost use Rattle.trace_checking.specs.Inner.Cutting.{whole_end};
-ghost use Rattle.trace_checking.specs.Checking.{part_of, checked_of, accepted, checked_part, closed, checked_trace};
+ghost use Rattle.trace_checking.specs.Checking.{part_numbers, checked_numbers, accepted, checked_part, closed, checked_trace};
 
-use laws::answers::*;
+use laws::answers::Refusal;
 use manual::{FULL_MEMORY, Machine};
-use trace_line::{Line, read_state};
+use trace_line::read_state;
 use trace_step::follow;
 
-// The last accepted entry: none yet, or the state that it spelled.
-#[derive(Clone, Copy)]
-pub enum Last {
-    Start,
-    After(Machine),
-}
-
-// What a part of a trace shows: 0 if all its entries are accepted, and otherwise why the entry after the accepted ones is
-// bad; how many were accepted in it, and the last one.
+// What a part of a trace shows: why the entry after the accepted ones is bad, if one is; how many were accepted in it, and the
+// last accepted one, here or before it.
 #[derive(Clone, Copy)]
 pub struct Part {
-    pub answer: u8,
+    pub refusal: Option<Refusal>,
     pub lines: usize,
-    pub last: Last,
+    pub last: Option<Machine>,
 }
 
-// 0 if the trace is accepted; else why not, and which entry is the first bad one, counted from 1. `line` is 0 if
-// none is bad: on 0, and on 1.
+// Why a trace is not accepted, and which entry is the first bad one, counted from 1: 0 if a memory is not full.
 #[derive(Clone, Copy)]
-pub struct Checked {
-    pub answer: u8,
+pub struct Bad {
+    pub refusal: Refusal,
     pub line: usize,
 }
 
-impl Part {
-    fn new(answer: u8, lines: usize, last: Last) -> Part
-        ensures { result ≡ part_of answer lines last }
-    {
-        Part {
-            answer: answer,
-            lines: lines,
-            last: last,
-        }
-    }
-}
-
-impl Checked {
-    fn new(answer: u8, line: usize) -> Checked
-        ensures { result ≡ checked_of answer line }
-    {
-        Checked {
-            answer: answer,
-            line: line,
-        }
-    }
-}
-
 // Whether a state may stand in the next entry; if so, the step to it is made.
-fn accept(last: Last, next: Machine, copy: &mut [u8]) -> bool
+fn accept(last: Option<Machine>, next: Machine, copy: &mut [u8]) -> bool
     ensures { (result, copy.new) ≡ accepted last next copy.old }
 {
     match last {
-        Last::Start => true,
-        Last::After(machine) => follow(machine, next, copy),
+        None => true,
+        Some(machine) => follow(machine, next, copy),
     }
 }
 
 // Checks a part of a trace that begins with an entry, after `start`, on the memory that the entries before it leave. A part that
 // ends with LF can be followed by another one: the theorem `joined` says that this checks the two as one.
-pub fn check_part(start: Last, part: &[u8], copy: &mut [u8]) -> Part
-    ensures copy_after { (result, copy.new) ≡ checked_part start copy.old part.now }
+pub fn check_part(start: Option<Machine>, part: &[u8], copy: &mut [u8]) -> Part
+    ensures copy_after { (part_numbers result, copy.new) ≡ checked_part start copy.old part.now }
     ensures lines_in_bounds { result.lines ≤ length part.now }
 {
     let mut last = start;
     let mut at: usize = 0;
     let mut lines: usize = 0;
+    // no `for`: an entry ends where its reading says
     while at < part.len() {
-        let read = read_state(part, at);
-        match read {
-            Line::State(spelled) => {
-                let next = spelled.machine;
-                if accept(last, next, copy) {
-                    last = Last::After(next);
-                    at = spelled.next;
-                    lines += 1;
-                } else {
-                    return Part::new(STRAY_ENTRY, lines, last);
-                }
-            }
-            Line::Malformed => {
-                return Part::new(MALFORMED_ENTRY, lines, last);
-            }
+        let Some(spelled) = read_state(part, at) else {
+            let refusal = Some(Refusal::MalformedEntry);
+            return Part {
+                refusal,
+                lines,
+                last,
+            };
+        };
+        if !accept(last, spelled.machine, copy) {
+            let refusal = Some(Refusal::StrayEntry);
+            return Part {
+                refusal,
+                lines,
+                last,
+            };
         }
+        last = Some(spelled.machine);
+        at = spelled.next;
+        lines += 1;
     }
-    Part::new(NOT_REFUSED, lines, last)
+    Part {
+        refusal: None,
+        lines,
+        last,
+    }
 }
 
 // The place after the last LF of a text: so far it consists of whole entries.
@@ -103,54 +81,39 @@ pub fn whole_lines(text: &[u8]) -> usize
     ensures value { result ≡ whole_end text.now }
     ensures upper_bound { result ≤ length text.now }
 {
-    let mut end = text.len();
-    while 0 < end {
-        let last = end - 1;
+    for last in (0..text.len()).rev() {
         if text[last] == b'\n' {
-            return end;
+            return last + 1;
         }
-        end = last;
     }
     0
 }
 
 // What all entries of a trace show: a trace without an entry is malformed too, entry 1 is missing.
-fn close(answer: u8, lines: usize) -> Checked
-    requires { lines < 18446744073709551615 }
-    ensures { result ≡ closed answer lines }
+fn close(part: Part) -> Result<(), Bad>
+    requires { part.lines < 18446744073709551615 }
+    ensures { checked_numbers result ≡ closed (answer_in part.refusal) part.lines }
 {
-    if answer != NOT_REFUSED {
-        return Checked::new(answer, lines + 1);
+    if let Some(refusal) = part.refusal {
+        let line = part.lines + 1;
+        return Err(Bad { refusal, line });
     }
-    if lines == 0 {
-        return Checked::new(MALFORMED_ENTRY, 1);
+    if part.lines == 0 {
+        let refusal = Refusal::MalformedEntry;
+        return Err(Bad { refusal, line: 1 });
     }
-    Checked::new(NOT_REFUSED, 0)
+    Ok(())
 }
 
-fn copy_image(image: &[u8], copy: &mut [u8])
-    requires { length copy.old ≡ length image.now }
-    ensures { copy.new ≡ image.now }
+// Checks a trace against an image. `copy` starts as the image and is left as the accepted entries leave it; only a memory that is
+// not full leaves it untouched.
+pub fn check_trace(image: &[u8], lines: &[u8], copy: &mut [u8]) -> Result<(), Bad>
+    ensures { (checked_numbers result, copy.new) ≡ checked_trace image.now lines.now copy.old }
 {
-    let mut at: usize = 0;
-    while at < image.len() {
-        copy[at] = image[at];
-        at += 1;
+    if image.len() != FULL_MEMORY || copy.len() != FULL_MEMORY {
+        let refusal = Refusal::MemoryNotFull;
+        return Err(Bad { refusal, line: 0 });
     }
-}
-
-// Checks a trace against an image. `copy` starts as the image and is left as the accepted entries leave it; only answer 1
-// leaves it untouched.
-pub fn check_trace(image: &[u8], lines: &[u8], copy: &mut [u8]) -> Checked
-    ensures { (result, copy.new) ≡ checked_trace image.now lines.now copy.old }
-{
-    if image.len() != FULL_MEMORY {
-        return Checked::new(MEMORY_NOT_FULL, 0);
-    }
-    if copy.len() != FULL_MEMORY {
-        return Checked::new(MEMORY_NOT_FULL, 0);
-    }
-    copy_image(image, copy);
-    let part = check_part(Last::Start, lines, copy);
-    close(part.answer, part.lines)
+    copy.copy_from_slice(image);
+    close(check_part(None, lines, copy))
 }

@@ -1,12 +1,8 @@
-use Prim.Native.Nat.{◌+◌, ◌*◌, ◌<◌}
-use mathlib.Core.Path.{◌≡◌, sym, ◌∙◌}
-use mathlib.Core.List.{[]}
-use native.Mathlib.Omega.{arith}
-use lib.ListN.{length}
-use Rattle.manual.specs.Stepping.{full_memory}
+-- Each run by steps is a part of the run by cycles.
+use Rattle.std.proofs.Common.{[], sym, ◌∙◌, arith}
 use Rattle.manual.proofs.Lemmas.StepLaws.{long_whole}
 use Rattle.manual.proofs.Theorems.Spending.{cycles_short, cycles_long, cycles_whole}
-use Rattle.cpu_cycles.specs.Lemmas.Budget.{unspent, spent, Pays, pays}
+use Rattle.cpu_cycles.specs.Lemmas.Budget.{unspent, spent, sure_pays}
 use Rattle.cpu_cycles.proofs.run_cycles.Goals as goal
 
 pub returns-then-memory-ne-FULL_MEMORY : goal.returns-then-memory-ne-FULL_MEMORY
@@ -27,33 +23,24 @@ overflow_sub-left c = omega (arith, c.loop-after.invariant.1.least)
 
 pub overflow_add-steps : goal.overflow_add-steps
 overflow_add-steps c =
-    let some : 0 < c.sure_steps.result = omega (arith, c.sure_steps.ensures) in
-    let few : c.loop-after.after.cycles + 7 * c.sure_steps.result < c.args.machine.cycles + c.args.limit + 7 = omega (arith, c.sure_steps.ensures, c.loop-after-test.true, c.loop-after.invariant.1.least) in
-    let paid : Pays c.args.limit c.args.lines c.args.machine c.args.memory.now c.loop-after.invariant.1 c.sure_steps.result some few c.long_run-ended.result c.long_run-ended.new.memory = pays _ _ _ _ c.loop-after.invariant.1 c.sure_steps.result some few (rw (long_whole _ _ _ _ c.loop-after.invariant.0) at c.long_run-ended.ensures) in
+    let paid = sure_pays _ _ _ _ c.loop-after.invariant.1 _ c.sure_steps.ensures c.loop-after-test.true (rw (long_whole _ _ _ _ c.loop-after.invariant.0) at c.long_run-ended.ensures) in
     omega (arith, paid.fits, c.ranges.limit.fits)
 
 pub returns-then-not-is_made : goal.returns-then-not-is_made
 returns-then-not-is_made c =
-    let some : 0 < c.sure_steps.result = omega (arith, c.sure_steps.ensures) in
-    let few : c.loop-after.after.cycles + 7 * c.sure_steps.result < c.args.machine.cycles + c.args.limit + 7 = omega (arith, c.sure_steps.ensures, c.loop-after-test.true, c.loop-after.invariant.1.least) in
-    let paid : Pays c.args.limit c.args.lines c.args.machine c.args.memory.now c.loop-after.invariant.1 c.sure_steps.result some few c.long_run-ended.result c.long_run-ended.new.memory = pays _ _ _ _ c.loop-after.invariant.1 c.sure_steps.result some few (rw (long_whole _ _ _ _ c.loop-after.invariant.0) at c.long_run-ended.ensures) in
+    let paid = sure_pays _ _ _ _ c.loop-after.invariant.1 _ c.sure_steps.ensures c.loop-after-test.true (rw (long_whole _ _ _ _ c.loop-after.invariant.0) at c.long_run-ended.ensures) in
     rw (cycles_whole _ _ _ _ [] c.if-memory-ne-FULL_MEMORY.false c.if-limit-gt-HIGHEST_BOUND.false)
     (paid.stops (sym c.is_made.ensures ∙ c.if-not-is_made.true) ∙ rw c.new-then-not-is_made.ensures)
 
 pub loop-after-smaller : goal.loop-after-smaller
 loop-after-smaller c =
-    let some : 0 < c.sure_steps.result = omega (arith, c.sure_steps.ensures) in
-    let few : c.loop-after.after.cycles + 7 * c.sure_steps.result < c.args.machine.cycles + c.args.limit + 7 = omega (arith, c.sure_steps.ensures, c.loop-after-test.true, c.loop-after.invariant.1.least) in
-    let paid : Pays c.args.limit c.args.lines c.args.machine c.args.memory.now c.loop-after.invariant.1 c.sure_steps.result some few c.long_run-ended.result c.long_run-ended.new.memory = pays _ _ _ _ c.loop-after.invariant.1 c.sure_steps.result some few (rw (long_whole _ _ _ _ c.loop-after.invariant.0) at c.long_run-ended.ensures) in
+    let paid = sure_pays _ _ _ _ c.loop-after.invariant.1 _ c.sure_steps.ensures c.loop-after-test.true (rw (long_whole _ _ _ _ c.loop-after.invariant.0) at c.long_run-ended.ensures) in
     omega (arith, (paid.goes (sym c.is_made.ensures ∙ c.if-not-is_made.false)).0, c.loop-after-test.true)
 
 pub loop-after-preserved : goal.loop-after-preserved
 loop-after-preserved c =
-    let some : 0 < c.sure_steps.result = omega (arith, c.sure_steps.ensures) in
-    let few : c.loop-after.after.cycles + 7 * c.sure_steps.result < c.args.machine.cycles + c.args.limit + 7 = omega (arith, c.sure_steps.ensures, c.loop-after-test.true, c.loop-after.invariant.1.least) in
-    let paid : Pays c.args.limit c.args.lines c.args.machine c.args.memory.now c.loop-after.invariant.1 c.sure_steps.result some few c.long_run-ended.result c.long_run-ended.new.memory = pays _ _ _ _ c.loop-after.invariant.1 c.sure_steps.result some few (rw (long_whole _ _ _ _ c.loop-after.invariant.0) at c.long_run-ended.ensures) in
-    let kept : length c.long_run-ended.new.memory ≡ full_memory = omega (arith, c.loop-after.invariant.0) in
-    (kept, (paid.goes (sym c.is_made.ensures ∙ c.if-not-is_made.false)).1)
+    let paid = sure_pays _ _ _ _ c.loop-after.invariant.1 _ c.sure_steps.ensures c.loop-after-test.true (rw (long_whole _ _ _ _ c.loop-after.invariant.0) at c.long_run-ended.ensures) in
+    (omega (arith, c.loop-after.invariant.0), (paid.goes (sym c.is_made.ensures ∙ c.if-not-is_made.false)).1)
 
 pub returns : goal.returns
 returns c =

@@ -1,6 +1,6 @@
 -- A run by cycles (P11) made of runs by steps. Each is of so many that its limit is not spent before the last of them: a step takes at most seven
 -- cycles.
-use Rattle.std.specs.Prelude.{ℕ, zero, suc, ◌+◌, ◌-◌, ◌*◌, ◌≤◌, ◌<◌, ◌≡◌, refl, true, false, List}
+use Rattle.std.specs.Prelude.{ℕ, zero, suc, ◌+◌, ◌-◌, ◌*◌, ◌/◌, ◌≤◌, ◌<◌, ◌≡◌, refl, true, false, List}
 use Rattle.std.proofs.Common.{ap, ◌∙◌, arith}
 use Rattle.manual.specs.declared.Lines.{Lines}
 use Rattle.manual.specs.declared.Machine.{Machine}
@@ -102,3 +102,14 @@ module _ (limit : ℕ) (lines : Lines) (s₀ : Machine) (m₀ : List ℕ) where
 
       pub pays : {q : Ended} {m' : List ℕ} → Gives (run_full n 0 lines s) m q m' → Pays q m'
       pays g = by_end (run_ends n lines s m g)
+
+    -- the run that the loop makes: of as many steps as begin before the limit is spent
+    module _ (n : ℕ) (sure : n ≡ (limit - (s.cycles - s₀.cycles) - 1) / 7 + 1) (on : s.cycles - s₀.cycles < limit) where
+      pub some : 0 < n
+      some = omega (arith, sure)
+
+      pub few : s.cycles + 7 * n < until + 7
+      few = omega (arith, sure, on, budget.least)
+
+      pub sure_pays : {q : Ended} {m' : List ℕ} → Gives (run_full n 0 lines s) m q m' → Pays n some few q m'
+      sure_pays g = pays n some few g

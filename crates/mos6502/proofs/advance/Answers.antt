@@ -15,9 +15,8 @@ use Rattle.mos6502.proofs.advance.Goals as goal
 
 pub turn-turned-requires : goal.turn-turned-requires
 turn-turned-requires c = (
-  c.requires.0,
-  subst (λ (l : Lines). Calm l c.args.bound) (sym c.lines_from.ensures) c.requires.1,
-  subst (λ (q : Machine). Fits q.cycles c.args.bound) (sym c.machine_from.ensures) c.requires.2,
+  subst (λ (l : Lines). Calm l c.args.bound) (sym c.lines_from.ensures) c.requires.0,
+  subst (λ (q : Machine). Fits q.cycles c.args.bound) (sym c.machine_from.ensures) c.requires.1,
 )
 
 pub returns : goal.returns

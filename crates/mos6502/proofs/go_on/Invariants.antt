@@ -1,13 +1,10 @@
 -- The loop's invariant is a `Round`: what is left of the run goes on from the numbers.
 use Prim.Native.Nat.{◌-◌, ◌≤◌}
-use mathlib.Core.Path.{◌≡◌}
-use lib.ListN.{length}
-use Rattle.manual.specs.Stepping.{full_memory}
 use Rattle.mos6502.specs.Lemmas.Rounds.{Round}
 use Rattle.mos6502.proofs.go_on.Given as goal
 
 abbrev pub invariant-loop-total : goal.invariant-loop-total
-invariant-loop-total l = (l.total ≤ l.bound) × (length l.memory ≡ full_memory) × Round l.bound l.lines l.initial.registers l.initial.cycles l.initial.memory l.total l.registers l.cycles l.memory
+invariant-loop-total l = (l.total ≤ l.bound) × Round l.bound l.lines l.initial.registers l.initial.cycles l.initial.memory l.total l.registers l.cycles l.memory
 
 abbrev pub decreases-loop-total : goal.decreases-loop-total
 decreases-loop-total l = l.bound - l.total

@@ -13,13 +13,12 @@ use Rattle.mos6502.proofs.one_turn.Goals as goal
 pub advance-requires : goal.advance-requires
 advance-requires c =
     let level : (irq : Bool) → c.lines_from-present.result.irq ≡ irq → (lines_from c.args.lines).irq ≡ irq = λ irq e. ap (λ (l : Lines). l.irq) (sym c.lines_from-present.ensures) ∙ e in (
-      c.requires.0,
       inl (level _ c.if-present.true),
-      subst (Fits c.args.cycles.now) (sym c.fitting-far.ensures) (fitting_fits c.args.bound c.args.cycles.now c.requires.1),
+      subst (Fits c.args.cycles.now) (sym c.fitting-far.ensures) (fitting_fits c.args.bound c.args.cycles.now c.requires),
     )
 
 pub advance-requires-else-present : goal.advance-requires-else-present
-advance-requires-else-present c = (c.requires.0, inr refl, one_fits _)
+advance-requires-else-present c = (inr refl, one_fits _)
 
 pub returns-then-present : goal.returns-then-present
 returns-then-present c =

@@ -1,5 +1,5 @@
 -- A run by cycles on numbers, run by run: what holds before each run by steps, and what one makes of it.
-use Rattle.std.specs.Prelude.{ℕ, ◌+◌, ◌*◌, ◌≤◌, ◌<◌, Bool, true, false, cond, ◌≡◌, refl, List, ltb}
+use Rattle.std.specs.Prelude.{ℕ, ◌+◌, ◌-◌, ◌*◌, ◌/◌, ◌≤◌, ◌<◌, Bool, true, false, cond, ◌≡◌, refl, List, ltb}
 use Rattle.std.proofs.Common.{ap, sym, ◌∙◌, subst, arith}
 use Rattle.manual.specs.declared.Lines.{Lines}
 use Rattle.manual.specs.declared.Machine.{Machine}
@@ -8,7 +8,7 @@ use Rattle.manual.specs.declared.Reason.{Reason}
 use Rattle.manual.specs.Micro.{exec, Gives}
 use Rattle.manual.specs.Outcomes.{number, ended}
 use Rattle.manual.specs.Stepping.{full_memory, highest_bound, run_full, spend_full}
-use Rattle.cpu_cycles.specs.Lemmas.Budget.{Budget, unspent, spent, Pays, pays}
+use Rattle.cpu_cycles.specs.Lemmas.Budget.{Budget, unspent, spent, some, few, Pays, pays}
 use Rattle.mos6502_numbers.specs.Machines.{machine_from, lines_from, registers_after, cycles_after}
 use Rattle.mos6502.specs.Numbers.{RunNumbers, run_numbers, run_cycles_on_numbers}
 use Rattle.mos6502.specs.Inner.Turns.{Ran}
@@ -89,3 +89,9 @@ module _ (limit lines registers₀ cycles₀ : ℕ) (m₀ : List ℕ) where
         ran_spends g =
             subst (λ (z : RunNumbers × List ℕ). machine_from z.0.registers z.0.cycles ≡ q.machine → Spends z.0 z.1) (run_of lines registers cycles m n g.0) spends
             g.1
+
+      -- of the run that the loop makes
+      module _ (n : ℕ) (sure : n ≡ (limit - (cycles - cycles₀) - 1) / 7 + 1) (on : cycles - cycles₀ < limit) where
+        pub sure_spends : {v : RunNumbers} {m' : List ℕ} → Ran n lines registers cycles m v m'
+            → Spends n (some limit present (machine_from registers₀ cycles₀) m₀ spending.budget n sure on) (few limit present (machine_from registers₀ cycles₀) m₀ spending.budget n sure on) v m'
+        sure_spends = ran_spends n (some limit present (machine_from registers₀ cycles₀) m₀ spending.budget n sure on) (few limit present (machine_from registers₀ cycles₀) m₀ spending.budget n sure on)

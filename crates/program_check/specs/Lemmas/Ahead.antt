@@ -1,14 +1,12 @@
 -- Laws of Ahead.antt.
-use Rattle.std.specs.Prelude.{◌≡◌, ℕ, ◌+◌, ◌-◌, ◌≤◌, Bool, true, false, cond, List, [], ◌++◌, length, take, drop, ◌==◌, ◌≢◌, nat_lt, refl}
+use Rattle.std.specs.Prelude.{◌≡◌, ℕ, ◌+◌, ◌-◌, ◌≤◌, Bool, true, false, cond, List, [], ◌++◌, length, take, drop, ◌==◌, ◌≢◌, nat_lt, refl, Option, None}
 use Rattle.std.proofs.Common.{ap, sym, ◌∙◌, append_assoc, append-nil, add_assoc, zero-add, arith, length-append, take-append-drop, eq-eqb, ne_eqb, eqb-true, ltb-true}
 use Rattle.std.proofs.Math.Seq.{take-length}
 use Rattle.std.proofs.lemmas.Bool.{eqb-false}
 use Rattle.laws.specs.Answers.{not_refused}
 use Rattle.text_reading.specs.Numbers.{nowhere}
-use Rattle.trace_checking.specs.declared.Last.{Last}
-use Rattle.trace_checking.specs.declared.Last.TheVariants.{Start}
-use Rattle.trace_checking.specs.declared.Part.{Part}
-use Rattle.trace_checking.specs.Checking.{checked_part}
+use Rattle.manual.specs.declared.Machine.{Machine}
+use Rattle.trace_checking.specs.Checking.{Part, checked_part}
 use Rattle.trace_checking.specs.Inner.Parts.{added}
 use Rattle.trace_checking.specs.Theorems.Parts.{goes_on, joined}
 use Rattle.trace_checking.specs.Inner.Cutting.{whole_end}
@@ -18,16 +16,16 @@ use Rattle.trace_line.specs.Lines.{longest_line}
 use Rattle.program_check.specs.Inner.Ahead.{Ahead, Settled, most_held, part_end, another, After}
 
 -- before the first part
-pub begun : (image : List ℕ) → Ahead image [] 0 Start image []
+pub begun : (image : List ℕ) → Ahead image [] 0 None image []
 begun image = record {
   few = omega arith;
-  goes = λ u f. rw (zero-add (checked_part Start image u).0.lines);
+  goes = λ u f. rw (zero-add (checked_part None image u).0.lines);
 }
 
 added_added : (j k : ℕ) (w : Part × List ℕ) → added j (added k w) ≡ added (j + k) w
 added_added j k w = rw (add_assoc j k w.0.lines)
 
-module _ (image t : List ℕ) (lines : ℕ) (last : Last) (m k : List ℕ) (a : Ahead image t lines last m k) (n : List ℕ) where
+module _ (image t : List ℕ) (lines : ℕ) (last : Option Machine) (m k : List ℕ) (a : Ahead image t lines last m k) (n : List ℕ) where
   abbrev s : List ℕ
   s = k ++ n
 
@@ -41,9 +39,9 @@ module _ (image t : List ℕ) (lines : ℕ) (last : Last) (m k : List ℕ) (a : 
   parted = take-append-drop (whole_end s) s
 
   -- the next characters are read
-  all : (u : List ℕ) → length ((t ++ n) ++ u) ≤ nowhere → checked_part Start image ((t ++ n) ++ u) ≡ added lines (checked_part last m (s ++ u))
+  all : (u : List ℕ) → length ((t ++ n) ++ u) ≤ nowhere → checked_part None image ((t ++ n) ++ u) ≡ added lines (checked_part last m (s ++ u))
   all u f =
-      ap (λ (l : List ℕ). checked_part Start image l) (append_assoc t n u)
+      ap (λ (l : List ℕ). checked_part None image l) (append_assoc t n u)
       ∙ a.goes (n ++ u) (omega (arith, f, ap length (append_assoc t n u)))
       ∙ ap (λ (l : List ℕ). added lines (checked_part last m l)) (sym (append_assoc k n u))
 
@@ -80,9 +78,9 @@ module _ (image t : List ℕ) (lines : ℕ) (last : Last) (m k : List ℕ) (a : 
     overran long e u f = all u f ∙ ap (added lines) (overlong s long last m u (fits u f) ∙ sym e)
 
     -- nothing follows
-    pub all_read : (p, m') ≡ checked_part last m s → length (t ++ n) ≤ nowhere → checked_part Start image (t ++ n) ≡ added lines (p, m')
+    pub all_read : (p, m') ≡ checked_part last m s → length (t ++ n) ≤ nowhere → checked_part None image (t ++ n) ≡ added lines (p, m')
     all_read e f =
-        ap (λ (l : List ℕ). checked_part Start image l) (sym (append-nil (t ++ n)))
+        ap (λ (l : List ℕ). checked_part None image l) (sym (append-nil (t ++ n)))
         ∙ all [] (omega (arith, f, ap length (append-nil (t ++ n))))
         ∙ ap (λ (l : List ℕ). added lines (checked_part last m l)) (append-nil s)
         ∙ ap (added lines) (sym e)

@@ -1,9 +1,8 @@
 -- Laws of Concluded.antt.
-use Rattle.std.specs.Prelude.{◌≡◌, ℕ, ◌≤◌, ◌⊎◌, List, [], length, ◌≢◌}
+use Rattle.std.specs.Prelude.{◌≡◌, ℕ, ◌≤◌, ◌⊎◌, List, [], length, ◌≢◌, None}
 use Rattle.std.proofs.Common.{ap, sym, ◌∙◌, inl, inr, append-nil, arith, ne_eqb}
 use Rattle.text_reading.specs.Numbers.{nowhere}
 use Rattle.statuses.specs.Statuses.{log_status, first_of}
-use Rattle.trace_checking.specs.declared.Last.TheVariants.{Start}
 use Rattle.trace_checking.specs.Checking.{checked_part}
 use Rattle.program_check.specs.declared.log.Found.{Found}
 use Rattle.program_check.specs.Inner.Ahead.{Settled}
@@ -12,13 +11,13 @@ use Rattle.program_check.specs.Concluded.{Concludes}
 
 module _ (image : List ℕ) (f : Found) {m : List ℕ} (e : Ends image f m) where
   -- What was found is the check of the text that was read.
-  check_found : length e.0 ≤ nowhere → checked_part Start image e.0 ≡ (part_in f, m)
+  check_found : length e.0 ≤ nowhere → checked_part None image e.0 ≡ (part_in f, m)
   check_found h = by_end (e.1 h)
     where
-      by_end : Settled image e.0 (part_in f, m) ⊎ (checked_part Start image e.0 ≡ (part_in f, m)) → checked_part Start image e.0 ≡ (part_in f, m)
+      by_end : Settled image e.0 (part_in f, m) ⊎ (checked_part None image e.0 ≡ (part_in f, m)) → checked_part None image e.0 ≡ (part_in f, m)
       by_end (inr x) = x
       by_end (inl x) =
-          ap (λ (l : List ℕ). checked_part Start image l) (sym (append-nil e.0))
+          ap (λ (l : List ℕ). checked_part None image l) (sym (append-nil e.0))
           ∙ x [] (omega (arith, h, ap length (append-nil e.0)))
 
   -- Its status is that of the text.

@@ -1,13 +1,11 @@
 -- Laws of Turns.antt.
-use Rattle.std.specs.Prelude.{◌≡◌, ℕ, ◌+◌, ◌-◌, ◌≤◌, Bool, true, false, ◌⊎◌, List, [], ◌++◌, length, take, drop}
+use Rattle.std.specs.Prelude.{◌≡◌, ℕ, ◌+◌, ◌-◌, ◌≤◌, Bool, true, false, ◌⊎◌, List, [], ◌++◌, length, take, drop, Option, None}
 use Rattle.std.proofs.Common.{ap, sym, subst, ◌∙◌, inl, inr, arith, length-append, length-drop, length-take-le, take-take, take-add, drop_at}
 use Rattle.std.proofs.lemmas.List.Edits.{sets, sets-eq}
 use Rattle.std.proofs.Math.Seq.{take-append_seam}
 use Rattle.text_reading.specs.Numbers.{nowhere}
-use Rattle.trace_checking.specs.declared.Last.{Last}
-use Rattle.trace_checking.specs.declared.Last.TheVariants.{Start}
-use Rattle.trace_checking.specs.declared.Part.{Part}
-use Rattle.trace_checking.specs.Checking.{checked_part}
+use Rattle.manual.specs.declared.Machine.{Machine}
+use Rattle.trace_checking.specs.Checking.{Part, checked_part}
 use Rattle.trace_checking.specs.Inner.Cutting.{whole_end}
 use Rattle.program_check.specs.declared.log.Found.{Found}
 use Rattle.program_check.specs.declared.log.Turn.{Turn}
@@ -93,13 +91,13 @@ pub nothing : (size kept : ℕ) (b : List ℕ) → size ≡ kept → take (size 
 nothing size kept b e = let none : size - kept ≡ 0 = omega arith in ap (λ (i : ℕ). take i (drop kept b)) none
 
 -- some text was read so far, and k of it is kept
-abbrev pub Sofar : List ℕ → ℕ → Last → List ℕ → List ℕ → Type 0
+abbrev pub Sofar : List ℕ → ℕ → Option Machine → List ℕ → List ℕ → Type 0
 Sofar image lines last m k = (t : List ℕ) × (length t ≤ nowhere → Ahead image t lines last m k)
 
-pub none_yet : (image : List ℕ) → Sofar image 0 Start image []
+pub none_yet : (image : List ℕ) → Sofar image 0 None image []
 none_yet image = ([], λ h. begun image)
 
-module _ {image : List ℕ} {lines : ℕ} {last : Last} {m k : List ℕ} (r : Turn) (k' m' : List ℕ) (s : Sofar image lines last m k) (g : More lines last k m r k' m') where
+module _ {image : List ℕ} {lines : ℕ} {last : Option Machine} {m k : List ℕ} (r : Turn) (k' m' : List ℕ) (s : Sofar image lines last m k) (g : More lines last k m r k' m') where
   abbrev t' : List ℕ
   t' = s.0 ++ g.0
 
@@ -109,7 +107,7 @@ module _ {image : List ℕ} {lines : ℕ} {last : Last} {m k : List ℕ} (r : Tu
   pub again : r.more ≡ true → Sofar image r.found.lines r.found.last m' k'
   again e = (t', λ h. subst (λ (o : Bool). After o g.1 image t' (part_in r.found) m' k') e (after_it h))
 
-  by_end : (ended : Bool) → After false ended image t' (part_in r.found) m' k' → Settled image t' (part_in r.found, m') ⊎ (checked_part Start image t' ≡ (part_in r.found, m'))
+  by_end : (ended : Bool) → After false ended image t' (part_in r.found) m' k' → Settled image t' (part_in r.found, m') ⊎ (checked_part None image t' ≡ (part_in r.found, m'))
   by_end true x = inr x
   by_end false x = inl x
 

@@ -1,6 +1,7 @@
 -- Laws for the proofs of the code: what go runs is a copy of what was read.
-use Rattle.std.specs.Prelude.{ℕ, ◌≤◌, ◌≡◌, List, ◌++◌, length, take, drop}
+use Rattle.std.specs.Prelude.{ℕ, ◌≤◌, ◌≡◌, List, ◌++◌, length, take, drop, Option}
 use Rattle.std.proofs.Common.{ap, sym, ◌∙◌, take-take}
+use Rattle.manual.specs.declared.Machine.{Machine}
 use Rattle.manual.specs.declared.Ended.{Ended}
 use Rattle.manual.specs.Micro.{exec, Gives}
 use Rattle.manual.specs.Stepping.{full_memory}
@@ -8,7 +9,6 @@ use Rattle.manual.specs.Lemmas.Programs.{exec_length}
 use Rattle.manual.proofs.Lemmas.StepLaws.{long_short}
 use Rattle.statuses.specs.declared.Goal.{Goal}
 use Rattle.statuses.specs.Statuses.{end_status}
-use Rattle.image_halted.specs.declared.Start.{Start}
 use Rattle.image_halted.specs.Halted.{start_of, memory_of, after_file}
 use Rattle.image_halted.specs.Lemmas.Opening.{short_refused}
 use Rattle.image_halted.specs.Lemmas.Copies.{copy_status, copy_file}
@@ -16,7 +16,7 @@ use Rattle.program_go.specs.Runs.{run_from, file_run, go_status, go_after}
 use Rattle.program_go.specs.Theorems.Lunch.{from_machine}
 
 -- `image` begins with what was read, of which `size` bytes are the memory; the run of them left m'
-module _ (goal : Goal) (steps : ℕ) (input image : List ℕ) (size : ℕ) {start : Start} {q : Ended} {m' : List ℕ}
+module _ (goal : Goal) (steps : ℕ) (input image : List ℕ) (size : ℕ) {start : Option Machine} {q : Ended} {m' : List ℕ}
     (copied : take (length input) image ≡ input) (starts : start ≡ start_of input) (memory : take size input ≡ memory_of input) (inside : size ≤ length input)
     (g : Gives (run_from start steps (length (take size image))) (take size image) q m') where
   abbrev runs : List ℕ → Ended × List ℕ

@@ -1,5 +1,5 @@
 -- Lunch by files (P12): the file that a halted run of k steps leaves, opened and run for n more, gives the run of k + n steps.
-use Rattle.std.specs.Prelude.{ℕ, zero, suc, ◌+◌, ◌≤◌, ◌<◌, ◌≡◌, refl, Bool, true, false, cond, List, [], ◌∷◌, eqb, length, take, get_or}
+use Rattle.std.specs.Prelude.{ℕ, zero, suc, ◌+◌, ◌≤◌, ◌<◌, ◌≡◌, refl, Bool, true, false, cond, List, [], ◌∷◌, eqb, length, take, get_or, Option, Some, None}
 use Rattle.std.proofs.Math.Path.{ap, sym}
 use Rattle.std.proofs.Common.{◌∙◌, arith}
 use Rattle.std.proofs.Math.Decide.{ℕ_discrete}
@@ -21,21 +21,19 @@ use Rattle.trace_checking.specs.Theorems.Honest.{led_spellable}
 use Rattle.image_run.specs.Report.{start, image_start}
 use Rattle.image_run.specs.Lemmas.Report.{started}
 use Rattle.manual_parts.specs.Lemmas.Parts.{long_lunch}
-use Rattle.image_halted.specs.declared.Start.{Start}
-use Rattle.image_halted.specs.declared.Start.TheVariants.{Image, From}
 use Rattle.image_halted.specs.Halted.{halted_run, start_of, memory_by, memory_of}
 use Rattle.image_halted.specs.Theorems.Opening.{opens_again, only_halted}
 use Rattle.program_go.specs.Runs.{run_from, file_run}
 
 -- the machine with which a run begins
-abbrev first_machine : Start → List ℕ → Machine
-first_machine Image m = image_start m
-first_machine (From s) m = s
+abbrev first_machine : Option Machine → List ℕ → Machine
+first_machine None m = image_start m
+first_machine (Some s) m = s
 
 -- so each is a long run
-pub from_machine : (t : Start) (steps : ℕ) (m : List ℕ) → exec (run_from t steps (length m)) m ≡ exec (long_run (length m) steps idle (first_machine t m)) m
-from_machine Image steps m = started (long_run (length m) steps idle) m (λ s other. long_short (length m) steps idle s m other)
-from_machine (From s) steps m = refl
+pub from_machine : (t : Option Machine) (steps : ℕ) (m : List ℕ) → exec (run_from t steps (length m)) m ≡ exec (long_run (length m) steps idle (first_machine t m)) m
+from_machine None steps m = started (long_run (length m) steps idle) m (λ s other. long_short (length m) steps idle s m other)
+from_machine (Some s) steps m = refl
 
 -- ---- the first machine can be written as a line
 
@@ -58,18 +56,18 @@ image_spellable m b true = start_spellable _ (omega (arith, b 0xFFFD, b 0xFFFC))
 image_spellable m b false = start_spellable 0 (omega arith)
 
 module _ (file : List ℕ) (fits : length file ≤ nowhere) (bytes : Bytes file) where
-  bytes_by : (t : Start) → Bytes (memory_by t file)
-  bytes_by Image = bytes
-  bytes_by (From s) = bytes_take full_memory file bytes
+  bytes_by : (t : Option Machine) → Bytes (memory_by t file)
+  bytes_by None = bytes
+  bytes_by (Some s) = bytes_take full_memory file bytes
 
   memory_bytes : Bytes (memory_of file)
   unfolding memory_of
   memory_bytes = bytes_by (start_of file)
 
-  first_by : (t : Start) → start_of file ≡ t → Spellable (first_machine t (memory_of file))
+  first_by : (t : Option Machine) → start_of file ≡ t → Spellable (first_machine t (memory_of file))
   unfolding image_start
-  first_by Image e = image_spellable (memory_of file) memory_bytes (eqb (length (memory_of file)) full_memory)
-  first_by (From s) e = (only_halted file fits s e).spellable
+  first_by None e = image_spellable (memory_of file) memory_bytes (eqb (length (memory_of file)) full_memory)
+  first_by (Some s) e = (only_halted file fits s e).spellable
 
   -- ---- a run that made all its steps
 

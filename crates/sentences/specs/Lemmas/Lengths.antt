@@ -1,6 +1,7 @@
 -- Laws for the proofs of the code.
-use Rattle.std.specs.Prelude.{◌+◌, ◌<◌, ◌≤◌, ◌^◌, ◌≡◌, length}
+use Rattle.std.specs.Prelude.{◌+◌, ◌<◌, ◌≤◌, ◌^◌, ◌≡◌, refl, false, eqb, length}
 use Rattle.std.proofs.Common.{arith, length-append}
+use Rattle.laws.specs.Answers.{memory_not_full}
 use Rattle.manual.specs.declared.Ended.{Ended}
 use Rattle.manual.specs.declared.Reason.{Reason}
 use Rattle.manual.specs.declared.Reason.TheVariants.{Made, MemoryNotFull, NoCycleRoom, NotAnOpcode, BoundTooHigh}
@@ -32,3 +33,11 @@ fields_fit q s k =
       decimal_length 19 q.steps (omega arith),
       decimal_length 19 q.machine.cycles (omega arith),
     )
+
+-- The number of another reason is another one.
+pub other_number : (r : Reason) → (r ≡ MemoryNotFull → ⊥) → eqb (number r) memory_not_full ≡ false
+other_number Made h = refl
+other_number MemoryNotFull h = absurd (h refl)
+other_number NoCycleRoom h = refl
+other_number NotAnOpcode h = refl
+other_number BoundTooHigh h = refl

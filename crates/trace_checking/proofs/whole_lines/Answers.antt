@@ -1,19 +1,17 @@
-use mathlib.Core.Path.{refl, sym, ◌∙◌}
+-- The first LF from the end is the last one.
+use mathlib.Core.Path.{◌≡◌, sym, ◌∙◌}
+use Prim.Native.Nat.{◌+◌, ◌-◌}
 use native.Mathlib.Omega.{arith}
 use Rattle.trace_checking.specs.Theorems.Cutting.{end_here, end_before_lem, end_none}
 use Rattle.trace_checking.proofs.whole_lines.Goals as goal
 
-pub loop-end-init : goal.loop-end-init
-loop-end-init c = (omega arith, refl)
+pub returns-then-text-last-eq10-clause-value : goal.returns-then-text-last-eq10-clause-value
+returns-then-text-last-eq10-clause-value c =
+    let one : c.loop-last.last - 1 + 1 ≡ c.loop-last.last = omega (arith, c.loop-last-test.true) in
+    rw one (sym (c.loop-last.invariant ∙ end_here _ _ c.loop-last-test.true c.if-text-last-eq10.true))
 
-pub returns-then-text-last-eq10 : goal.returns-then-text-last-eq10
-returns-then-text-last-eq10 c =
-    record { value = sym (c.loop-end.invariant.1 ∙ end_here _ _ c.loop-end-test.true c.if-text-last-eq10.true); upper_bound = c.loop-end.invariant.0 }
+pub loop-last-preserved : goal.loop-last-preserved
+loop-last-preserved c = c.loop-last.invariant ∙ end_before_lem _ _ c.loop-last-test.true c.if-text-last-eq10.false
 
-pub loop-end-preserved : goal.loop-end-preserved
-loop-end-preserved c =
-    (omega (arith, c.loop-end.invariant.0), c.loop-end.invariant.1 ∙ end_before_lem _ _ c.loop-end-test.true c.if-text-last-eq10.false)
-
-pub returns : goal.returns
-returns c =
-    record { value = sym (c.loop-end.invariant.1 ∙ end_none _ _ (omega (arith, c.loop-end-test.false))); upper_bound = omega arith }
+pub returns-clause-value : goal.returns-clause-value
+returns-clause-value c = sym (c.loop-last.invariant ∙ end_none _ _ (omega (arith, c.loop-last-test.false)))

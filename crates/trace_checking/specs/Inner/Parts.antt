@@ -1,7 +1,6 @@
 -- A trace that is checked part by part: two parts, one after the other, are checked as they are as one.
 use Rattle.std.specs.Prelude.{ℕ, ◌+◌, List}
-use Rattle.trace_checking.specs.declared.Part.{Part}
-use Rattle.trace_checking.specs.Checking.{part_of}
+use Rattle.trace_checking.specs.Checking.{Part, part_of}
 
 -- more entries are accepted before those of a part
 abbrev pub added : ℕ → Part × List ℕ → Part × List ℕ

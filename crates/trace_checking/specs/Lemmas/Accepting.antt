@@ -1,42 +1,37 @@
 -- What the entries of a part show, in the words of the rules.
-use Rattle.std.specs.Prelude.{ℕ, zero, suc, ◌+◌, ◌<◌, ◌≤◌, ◌≡◌, refl, Bool, true, false, List, [], ◌∷◌, ◌++◌, length, drop}
+use Rattle.std.specs.Prelude.{ℕ, zero, suc, ◌+◌, ◌<◌, ◌≤◌, ◌≡◌, refl, Bool, true, false, List, [], ◌∷◌, ◌++◌, length, drop, Option, Some, None}
 use Rattle.std.proofs.Common.{ap, sym, ◌∙◌, subst, true≢false, append_assoc, arith, length-append, length-drop, drop_at}
 use Rattle.laws.specs.Answers.{malformed_entry, stray_entry}
 use Rattle.manual.specs.declared.Machine.{Machine}
 use Rattle.text_reading.specs.Numbers.{nowhere}
 use Rattle.trace_line.specs.declared.Spelled.{Spelled}
-use Rattle.trace_line.specs.declared.Line.{Line}
-use Rattle.trace_line.specs.declared.Line.TheVariants.{State, Malformed}
 use Rattle.trace_line.specs.Fields.{line_of}
 use Rattle.trace_line.specs.Lines.{Spellable, line_text}
 use Rattle.trace_line.specs.Theorems.Lines as line
 use Rattle.trace_step.specs.Lemmas.Following.{follows, followed_by, not_followed}
-use Rattle.trace_checking.specs.declared.Last.{Last}
-use Rattle.trace_checking.specs.declared.Last.TheVariants.{Start, After}
-use Rattle.trace_checking.specs.declared.Part.{Part}
-use Rattle.trace_checking.specs.Checking.{part_of, accepted, if_accepted, later}
+use Rattle.trace_checking.specs.Checking.{Part, part_of, accepted, if_accepted, later}
 use Rattle.trace_checking.specs.Lemmas.Turns.{at_malformed, at_state, turn_end}
 use Rattle.trace_checking.specs.Logs.{log_text, AllSpellable, Admits, Follow, Accepted, PartVerdict, all, malformed, astray}
 
 -- ---- one entry
 
-accepts : (last : Last) (t : Machine) (m m' : List ℕ) → accepted last t m ≡ (true, m') → Admits last m t m'
-accepts Start t m m' e = ap (λ (w : Bool × List ℕ). w.1) e
-accepts (After s) t m m' e = follows s t m m' e
+accepts : (last : Option Machine) (t : Machine) (m m' : List ℕ) → accepted last t m ≡ (true, m') → Admits last m t m'
+accepts None t m m' e = ap (λ (w : Bool × List ℕ). w.1) e
+accepts (Some s) t m m' e = follows s t m m' e
 
-accepted_by : (last : Last) (t : Machine) (m : List ℕ) {m' : List ℕ} → Admits last m t m' → accepted last t m ≡ (true, m')
-accepted_by Start t m e = ap (λ (l : List ℕ). (true, l)) e
-accepted_by (After s) t m h = followed_by s t m h
+accepted_by : (last : Option Machine) (t : Machine) (m : List ℕ) {m' : List ℕ} → Admits last m t m' → accepted last t m ≡ (true, m')
+accepted_by None t m e = ap (λ (l : List ℕ). (true, l)) e
+accepted_by (Some s) t m h = followed_by s t m h
 
-not_accepted : (last : Last) (t : Machine) (m m' : List ℕ) → accepted last t m ≡ (false, m') → m' ≡ m
-not_accepted Start t m m' e = absurd (true≢false (ap (λ (w : Bool × List ℕ). w.0) e))
-not_accepted (After s) t m m' e = not_followed s t m m' e
+not_accepted : (last : Option Machine) (t : Machine) (m m' : List ℕ) → accepted last t m ≡ (false, m') → m' ≡ m
+not_accepted None t m m' e = absurd (true≢false (ap (λ (w : Bool × List ℕ). w.0) e))
+not_accepted (Some s) t m m' e = not_followed s t m m' e
 
 not_both : (w : Bool × List ℕ) {m m' : List ℕ} → w ≡ (false, m) → w ≡ (true, m') → ⊥
 not_both w e f = true≢false (sym (ap (λ (v : Bool × List ℕ). v.0) f) ∙ ap (λ (v : Bool × List ℕ). v.0) e)
 
 -- a state that may not stand there
-stays : (last : Last) (t : Machine) (m : List ℕ) (w : Bool × List ℕ) → accepted last t m ≡ w → ((e : List ℕ) → Admits last m t e → ⊥)
+stays : (last : Option Machine) (t : Machine) (m : List ℕ) (w : Bool × List ℕ) → accepted last t m ≡ w → ((e : List ℕ) → Admits last m t e → ⊥)
     → w ≡ (false, m)
 stays last t m (true, e) f never = absurd (never e (accepts last t m e f))
 stays last t m (false, e) f never = ap (λ (l : List ℕ). (false, l)) (not_accepted last t m e f)
@@ -45,8 +40,8 @@ some_line : (t : Machine) (u : List ℕ) → 0 < length (line_text t ++ u)
 some_line t u = omega (arith, length-append (line_text t) u, line.line_length t)
 
 -- the entry of a state
-at_line : (k : ℕ) (last : Last) (m : List ℕ) (t : Machine) (rest : List ℕ) → Spellable t
-    → later 0 k last m (line_text t ++ rest) ≡ if_accepted k last (λ m'. later 0 (k + 1) (After t) m' rest) (accepted last t m)
+at_line : (k : ℕ) (last : Option Machine) (m : List ℕ) (t : Machine) (rest : List ℕ) → Spellable t
+    → later 0 k last m (line_text t ++ rest) ≡ if_accepted k last (λ m'. later 0 (k + 1) (Some t) m' rest) (accepted last t m)
 at_line k last m t rest h =
     at_state k last m (line_text t ++ rest) (record { machine = t; next = length (line_text t) })
     (some_line t rest) (line.written_read t rest h) (omega (arith, line.line_length t))
@@ -55,7 +50,7 @@ at_line k last m t rest h =
 -- ---- what the rules describe is what is answered
 
 -- over entries that follow
-pub along : (l : List Machine) (k : ℕ) (last last' : Last) (m m' rest : List ℕ) → AllSpellable l → Follow last m l last' m'
+pub along : (l : List Machine) (k : ℕ) (last last' : Option Machine) (m m' rest : List ℕ) → AllSpellable l → Follow last m l last' m'
     → later 0 k last m (log_text l ++ rest) ≡ later 0 (k + length l) last' m' rest
 along [] k last last' m m' rest h f =
     let none : k + 0 ≡ k = omega arith in
@@ -64,9 +59,9 @@ along (t ∷ l) k last last' m m' rest h f =
     let one : k + 1 + length l ≡ k + suc (length l) = omega arith in
     ap (λ (u : List ℕ). later 0 k last m u) (append_assoc (line_text t) (log_text l) rest)
     ∙ at_line k last m t (log_text l ++ rest) h.0
-    ∙ rw (accepted_by last t m f.1) (along l (k + 1) (After t) last' f.0 m' rest h.1 f.2 ∙ rw one)
+    ∙ rw (accepted_by last t m f.1) (along l (k + 1) (Some t) last' f.0 m' rest h.1 f.2 ∙ rw one)
 
-module _ (k : ℕ) (last : Last) (m text : List ℕ) {l : List Machine} {last' : Last} {m' rest : List ℕ} (a : Accepted last m text l last' m' rest) where
+module _ (k : ℕ) (last : Option Machine) (m text : List ℕ) {l : List Machine} {last' : Option Machine} {m' rest : List ℕ} (a : Accepted last m text l last' m' rest) where
   pub over : later 0 k last m text ≡ later 0 (k + length l) last' m' rest
   over = ap (λ (u : List ℕ). later 0 k last m u) a.text_is ∙ along l k last last' m m' rest a.spellable a.follow
 
@@ -74,13 +69,13 @@ module _ (k : ℕ) (last : Last) (m text : List ℕ) {l : List Machine} {last' :
   pub rest_fits : length text ≤ nowhere → length rest ≤ nowhere
   rest_fits fits = omega (arith, ap length a.text_is, length-append (log_text l) rest)
 
-pub astray_line : (k : ℕ) (last : Last) (m : List ℕ) (t : Machine) (rest : List ℕ) → Spellable t → ((e : List ℕ) → Admits last m t e → ⊥)
+pub astray_line : (k : ℕ) (last : Option Machine) (m : List ℕ) (t : Machine) (rest : List ℕ) → Spellable t → ((e : List ℕ) → Admits last m t e → ⊥)
     → later 0 k last m (line_text t ++ rest) ≡ (part_of stray_entry k last, m)
 astray_line k last m t rest h never =
     at_line k last m t rest h
-    ∙ ap (if_accepted k last (λ m'. later 0 (k + 1) (After t) m' rest)) (stays last t m (accepted last t m) refl never)
+    ∙ ap (if_accepted k last (λ m'. later 0 (k + 1) (Some t) m' rest)) (stays last t m (accepted last t m) refl never)
 
-pub part_only : (k : ℕ) (last : Last) (m text : List ℕ) (o : Part × List ℕ) → length text ≤ nowhere → PartVerdict k last m text o → o ≡ later 0 k last m text
+pub part_only : (k : ℕ) (last : Option Machine) (m text : List ℕ) (o : Part × List ℕ) → length text ≤ nowhere → PartVerdict k last m text o → o ≡ later 0 k last m text
 part_only k last m text o fits (all l last' m' a g) =
     g ∙ sym (over k last m text a ∙ turn_end [] 0 (k + length l) last' m' (omega arith))
 part_only k last m text o fits (malformed l last' m' rest a some never g) =
@@ -92,40 +87,40 @@ part_only k last m text o fits (astray l last' m' t rest a spelled never g) =
 
 -- ---- and it is always one of these
 
-one_more : (k : ℕ) (last : Last) (t : Machine) (m m₁ text rest : List ℕ) (o : Part × List ℕ) → Spellable t → Admits last m t m₁
-    → text ≡ line_text t ++ rest → PartVerdict (k + 1) (After t) m₁ rest o → PartVerdict k last m text o
+one_more : (k : ℕ) (last : Option Machine) (t : Machine) (m m₁ text rest : List ℕ) (o : Part × List ℕ) → Spellable t → Admits last m t m₁
+    → text ≡ line_text t ++ rest → PartVerdict (k + 1) (Some t) m₁ rest o → PartVerdict k last m text o
 one_more k last t m m₁ text rest o h g e v = go v
   where
-    longer : {l : List Machine} {last' : Last} {m' tail : List ℕ} → Accepted (After t) m₁ rest l last' m' tail → Accepted last m text (t ∷ l) last' m' tail
+    longer : {l : List Machine} {last' : Option Machine} {m' tail : List ℕ} → Accepted (Some t) m₁ rest l last' m' tail → Accepted last m text (t ∷ l) last' m' tail
     longer {l} {last'} {m'} {tail} a = record {
       spellable = (h, a.spellable);
       follow = (m₁, g, a.follow);
       text_is = e ∙ ap (λ (u : List ℕ). line_text t ++ u) a.text_is ∙ sym (append_assoc (line_text t) (log_text l) tail);
     }
 
-    counted : (answer n : ℕ) (last' : Last) (m' : List ℕ) → o ≡ (part_of answer (k + 1 + n) last', m') → o ≡ (part_of answer (k + suc n) last', m')
+    counted : (answer n : ℕ) (last' : Option Machine) (m' : List ℕ) → o ≡ (part_of answer (k + 1 + n) last', m') → o ≡ (part_of answer (k + suc n) last', m')
     counted answer n last' m' q =
         let count : k + 1 + n ≡ k + suc n = omega arith in
         q ∙ ap (λ (j : ℕ). (part_of answer j last', m')) count
 
-    go : PartVerdict (k + 1) (After t) m₁ rest o → PartVerdict k last m text o
+    go : PartVerdict (k + 1) (Some t) m₁ rest o → PartVerdict k last m text o
     go (all l last' m' a q) = all (t ∷ l) last' m' (longer a) (counted 0 (length l) last' m' q)
     go (malformed l last' m' tail a some never q) = malformed (t ∷ l) last' m' tail (longer a) some never (counted malformed_entry (length l) last' m' q)
     go (astray l last' m' v tail a spelled never q) = astray (t ∷ l) last' m' v tail (longer a) spelled never (counted stray_entry (length l) last' m' q)
 
 -- no entry is accepted
-none : (last : Last) (m text : List ℕ) → Accepted last m text [] last m text
+none : (last : Option Machine) (m text : List ℕ) → Accepted last m text [] last m text
 none last m text = record { spellable = tt; follow = (refl, refl); text_is = refl }
 
 -- one entry, the check of what follows being known
-module _ (n k : ℕ) (last : Last) (m text : List ℕ) (short : length text < suc n) (fits : length text ≤ nowhere) (some : 0 < length text)
-    (further : (t : Machine) (m₁ u : List ℕ) → length u < n → length u ≤ nowhere → PartVerdict (k + 1) (After t) m₁ u (later 0 (k + 1) (After t) m₁ u)) where
-  by_state : (q : Spelled) → line_of text ≡ State q → (w : Bool × List ℕ) → accepted last q.machine m ≡ w → PartVerdict k last m text (later 0 k last m text)
+module _ (n k : ℕ) (last : Option Machine) (m text : List ℕ) (short : length text < suc n) (fits : length text ≤ nowhere) (some : 0 < length text)
+    (further : (t : Machine) (m₁ u : List ℕ) → length u < n → length u ≤ nowhere → PartVerdict (k + 1) (Some t) m₁ u (later 0 (k + 1) (Some t) m₁ u)) where
+  by_state : (q : Spelled) → line_of text ≡ Some q → (w : Bool × List ℕ) → accepted last q.machine m ≡ w → PartVerdict k last m text (later 0 k last m text)
   by_state q e (true, m₁) f =
       let written = line.read_written text fits q e in
       let long : 0 < q.next = omega (arith, written.size, line.line_length q.machine) in
       let left = length-drop q.next text in
-      let answer : later 0 k last m text ≡ later 0 (k + 1) (After q.machine) m₁ (drop q.next text) = at_state k last m text q some e long ∙ rw f in
+      let answer : later 0 k last m text ≡ later 0 (k + 1) (Some q.machine) m₁ (drop q.next text) = at_state k last m text q some e long ∙ rw f in
       subst (λ (o : Part × List ℕ). PartVerdict k last m text o) (sym answer)
       (one_more k last q.machine m m₁ text (drop q.next text) _ written.spellable (accepts last q.machine m m₁ f) written.text
       (further q.machine m₁ (drop q.next text) (omega (arith, left, long)) (omega (arith, left))))
@@ -138,21 +133,21 @@ module _ (n k : ℕ) (last : Last) (m text : List ℕ) (short : length text < su
       (λ e' g. not_both (accepted last q.machine m) f (accepted_by last q.machine m g))
       (answer ∙ rw (count, not_accepted last q.machine m m₁ f))
 
-  by_line : (r : Line) → line_of text ≡ r → PartVerdict k last m text (later 0 k last m text)
-  by_line Malformed e =
+  by_line : (r : Option Spelled) → line_of text ≡ r → PartVerdict k last m text (later 0 k last m text)
+  by_line None e =
       let count : k + 0 ≡ k = omega arith in
       malformed [] last m text (none last m text) some ((line.malformed text fits).0 e) (at_malformed k last m text some e ∙ rw count)
-  by_line (State q) e = by_state q e (accepted last q.machine m) refl
+  by_line (Some q) e = by_state q e (accepted last q.machine m) refl
 
 -- `n` bounds the length of the text
-verdict_within : (n k : ℕ) (last : Last) (m text : List ℕ) → length text < n → length text ≤ nowhere → PartVerdict k last m text (later 0 k last m text)
+verdict_within : (n k : ℕ) (last : Option Machine) (m text : List ℕ) → length text < n → length text ≤ nowhere → PartVerdict k last m text (later 0 k last m text)
 verdict_within zero k last m text h fits = absurd (omega arith)
 verdict_within (suc n) k last m [] h fits =
     let count : k + 0 ≡ k = omega arith in
     all [] last m (none last m []) (turn_end [] 0 k last m (omega arith) ∙ rw count)
 verdict_within (suc n) k last m (c ∷ u) h fits =
-    by_line n k last m (c ∷ u) h fits (omega arith) (λ t m₁ v. verdict_within n (k + 1) (After t) m₁ v) (line_of (c ∷ u)) refl
+    by_line n k last m (c ∷ u) h fits (omega arith) (λ t m₁ v. verdict_within n (k + 1) (Some t) m₁ v) (line_of (c ∷ u)) refl
 
 -- Whatever is answered of a part is what the rules describe, and nothing else is.
-pub part_verdict : (k : ℕ) (last : Last) (m text : List ℕ) → length text ≤ nowhere → PartVerdict k last m text (later 0 k last m text)
+pub part_verdict : (k : ℕ) (last : Option Machine) (m text : List ℕ) → length text ≤ nowhere → PartVerdict k last m text (later 0 k last m text)
 part_verdict k last m text fits = verdict_within (suc (length text)) k last m text (omega arith) fits

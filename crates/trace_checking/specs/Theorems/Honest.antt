@@ -1,5 +1,5 @@
 -- Every log that is printed from an honest run is accepted.
-use Rattle.std.specs.Prelude.{ℕ, zero, suc, ◌≤◌, ◌<◌, ◌≡◌, refl, List, [], ◌∷◌, length}
+use Rattle.std.specs.Prelude.{ℕ, zero, suc, ◌≤◌, ◌<◌, ◌≡◌, refl, List, [], ◌∷◌, length, Some}
 use Rattle.std.proofs.Common.{ap, sym, ◌∙◌, subst, arith}
 use Rattle.std.proofs.Math.Decide.{dec_lt}
 use Rattle.laws.specs.Answers.{not_refused}
@@ -21,7 +21,6 @@ use Rattle.manual.proofs.Theorems.Ranges.{StepInRange, step_ranges}
 use Rattle.manual.proofs.Theorems.Serving.{recorded}
 use Rattle.trace_line.specs.Lines.{Spellable}
 use Rattle.trace_step.specs.Following.{OneStep}
-use Rattle.trace_checking.specs.declared.Last.TheVariants.{After}
 use Rattle.trace_checking.specs.Checking.{checked_of, checked_trace}
 use Rattle.trace_checking.specs.Logs.{log_text, AllSpellable, Follow}
 use Rattle.trace_checking.specs.Theorems.Verdicts.{log_accepted}
@@ -77,8 +76,8 @@ led_spellable (suc n) s m s' m' full h b led =
     led_spellable n led.0.machine led.1 s' m' size kept.0 kept.1 led.4
 
 honest_steps : (n : ℕ) (s : Machine) (m : List ℕ) (s' : Machine) (m' : List ℕ) → length m ≡ full_memory → Spellable s → Bytes m → Leads n idle s m s' m'
-    → AllSpellable (later_states n s m) × Follow (After s) m (later_states n s m) (After s') m'
-honest_steps zero s m s' m' full h b led = (tt, (ap After led.0, led.1))
+    → AllSpellable (later_states n s m) × Follow (Some s) m (later_states n s m) (Some s') m'
+honest_steps zero s m s' m' full h b led = (tt, (ap Some led.0, led.1))
 honest_steps (suc n) s m s' m' full h b led =
     let one = first_step s m led.0 led.1 full led.2 led.3 in
     let same_state : (exec (step_full idle s) m).0.machine ≡ led.0.machine = ap (λ (w : Stepped × List ℕ). w.0.machine) led.2 in
@@ -98,7 +97,7 @@ module _ (image copy : List ℕ) (s : Machine) (full : length image ≡ full_mem
       (record {
         first = s;
         others = later_states n s image;
-        last = After s';
+        last = Some s';
         spellable = (h, steps.0);
         spelled = refl;
         follow = steps.1;

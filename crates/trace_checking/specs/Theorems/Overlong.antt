@@ -1,15 +1,14 @@
 -- If more characters than an entry can have stand after the last LF, that entry is malformed, whatever follows: it need not be read to its end.
-use Rattle.std.specs.Prelude.{ℕ, ◌+◌, ◌<◌, ◌≤◌, ◌≡◌, refl, cond, List, [], ◌∷◌, ◌++◌, eqb, length, get_or, take, drop}
+use Rattle.std.specs.Prelude.{ℕ, ◌+◌, ◌<◌, ◌≤◌, ◌≡◌, refl, cond, List, [], ◌∷◌, ◌++◌, eqb, length, get_or, take, drop, Option}
 use Rattle.std.proofs.Common.{ap, sym, ◌∙◌, append_assoc, append-nil, add-zero, arith, length-append, length-drop, take-append-drop, drop_at, get_or-drop}
 use Rattle.std.proofs.Math.ListN.{get_or-append}
 use Rattle.laws.specs.Answers.{malformed_entry}
 use Rattle.text_reading.specs.Numbers.{nowhere}
+use Rattle.manual.specs.declared.Machine.{Machine}
 use Rattle.trace_fields.specs.Fields.{machine_fields}
 use Rattle.trace_line.specs.Lines.{longest_line}
 use Rattle.trace_line.specs.Theorems.Lines as line
-use Rattle.trace_checking.specs.declared.Last.{Last}
-use Rattle.trace_checking.specs.declared.Part.{Part}
-use Rattle.trace_checking.specs.Checking.{part_of, checked_part}
+use Rattle.trace_checking.specs.Checking.{Part, part_of, checked_part}
 use Rattle.trace_checking.specs.Lemmas.Turns.{at_malformed}
 use Rattle.trace_checking.specs.Logs.{NoLine}
 use Rattle.trace_checking.specs.Inner.Parts.{added}
@@ -43,12 +42,12 @@ module _ (s : List ℕ) (long : whole_end s + longest_line ≤ length s) where
       ∙ feed_at (machine_fields t) w in
       no_feed s (whole_end s + i) (omega arith) (omega arith) feed
 
-  bad : (last : Last) (m v : List ℕ) → length (rest ++ v) ≤ nowhere → checked_part last m (rest ++ v) ≡ (part_of malformed_entry 0 last, m)
+  bad : (last : Option Machine) (m v : List ℕ) → length (rest ++ v) ≤ nowhere → checked_part last m (rest ++ v) ≡ (part_of malformed_entry 0 last, m)
   bad last m v fits =
       at_malformed 0 last m (rest ++ v) (omega (arith, length-append rest v, length-drop (whole_end s) s)) ((line.malformed (rest ++ v) fits).1 (no_line v))
 
   -- What follows makes no difference.
-  pub overlong : (last : Last) (m u : List ℕ) → length (s ++ u) ≤ nowhere → checked_part last m (s ++ u) ≡ checked_part last m s
+  pub overlong : (last : Option Machine) (m u : List ℕ) → length (s ++ u) ≤ nowhere → checked_part last m (s ++ u) ≡ checked_part last m s
   overlong last m u fits =
       let lines = take (whole_end s) s in
       let w = checked_part last m lines in

@@ -1,18 +1,14 @@
 -- Two parts of a trace, checked one after the other, are checked as they are as one.
-use Rattle.std.specs.Prelude.{ℕ, zero, suc, ◌+◌, ◌-◌, ◌<◌, ◌≤◌, ◌≡◌, refl, ◌⊎◌, Bool, true, false, cond, List, [], ◌∷◌, ◌++◌, eqb, length, drop}
+use Rattle.std.specs.Prelude.{ℕ, zero, suc, ◌+◌, ◌-◌, ◌<◌, ◌≤◌, ◌≡◌, refl, ◌⊎◌, Bool, true, false, cond, List, [], ◌∷◌, ◌++◌, eqb, length, drop, Option, Some, None}
 use Rattle.std.proofs.Common.{ap, sym, ◌∙◌, inl, inr, append_assoc, arith, length-append}
 use Rattle.manual.specs.declared.Machine.{Machine}
 use Rattle.text_reading.specs.Numbers.{nowhere}
-use Rattle.trace_line.specs.declared.Line.{Line}
-use Rattle.trace_line.specs.declared.Line.TheVariants.{State, Malformed}
+use Rattle.trace_line.specs.declared.Spelled.{Spelled}
 use Rattle.trace_line.specs.Fields.{line_of}
 use Rattle.trace_line.specs.Lines.{line_text}
 use Rattle.trace_line.specs.Theorems.Lines as line
 use Rattle.trace_line.specs.Lemmas.LineFeeds.{stays_malformed}
-use Rattle.trace_checking.specs.declared.Last.{Last}
-use Rattle.trace_checking.specs.declared.Last.TheVariants.{After}
-use Rattle.trace_checking.specs.declared.Part.{Part}
-use Rattle.trace_checking.specs.Checking.{accepted, if_accepted, judged, later, checked_part}
+use Rattle.trace_checking.specs.Checking.{Part, accepted, if_accepted, judged, later, checked_part}
 use Rattle.trace_checking.specs.Lemmas.Turns.{at_malformed}
 use Rattle.trace_checking.specs.Logs.{log_text, Accepted, PartVerdict, all, malformed, astray}
 use Rattle.trace_checking.specs.Lemmas.Accepting.{over, astray_line, part_verdict}
@@ -28,25 +24,25 @@ Whole part = (part ≡ []) ⊎ ((front : List ℕ) × (part ≡ front ++ 10 ∷ 
 
 -- ---- the count
 
-count_state : (j k : ℕ) (last : Last) (w : Bool × List ℕ) (more less : List ℕ → Part × List ℕ) → ((m : List ℕ) → more m ≡ added j (less m))
+count_state : (j k : ℕ) (last : Option Machine) (w : Bool × List ℕ) (more less : List ℕ → Part × List ℕ) → ((m : List ℕ) → more m ≡ added j (less m))
     → if_accepted (j + k) last more w ≡ added j (if_accepted k last less w)
 count_state j k last (true, m) more less h = h m
 count_state j k last (false, m) more less h = refl
 
-count_line : (j k : ℕ) (last : Last) (m : List ℕ) (r : Line) (more less : ℕ → Machine → List ℕ → Part × List ℕ)
+count_line : (j k : ℕ) (last : Option Machine) (m : List ℕ) (r : Option Spelled) (more less : ℕ → Machine → List ℕ → Part × List ℕ)
     → ((size : ℕ) (t : Machine) (e : List ℕ) → more size t e ≡ added j (less size t e))
     → judged (j + k) last m more r ≡ added j (judged k last m less r)
-count_line j k last m Malformed more less h = refl
-count_line j k last m (State q) more less h =
+count_line j k last m None more less h = refl
+count_line j k last m (Some q) more less h =
     count_state j k last (accepted last q.machine m) (more q.next q.machine) (less q.next q.machine) (h q.next q.machine)
 
-counts_on : (text : List ℕ) (passed j k : ℕ) (last : Last) (m : List ℕ) → later passed (j + k) last m text ≡ added j (later passed k last m text)
+counts_on : (text : List ℕ) (passed j k : ℕ) (last : Option Machine) (m : List ℕ) → later passed (j + k) last m text ≡ added j (later passed k last m text)
 unfolding later
 counts_on [] passed j k last m = refl
 counts_on (c ∷ text) (suc passed) j k last m = counts_on text passed j k last m
 counts_on (c ∷ text) zero j k last m =
     count_line j k last m (line_of (c ∷ text)) _ _
-    (λ size t e. let one : j + k + 1 ≡ j + (k + 1) = omega arith in rw one (counts_on text (size - 1) j (k + 1) (After t) e))
+    (λ size t e. let one : j + k + 1 ≡ j + (k + 1) = omega arith in rw one (counts_on text (size - 1) j (k + 1) (Some t) e))
 
 -- ---- the end of a part
 
@@ -62,9 +58,9 @@ whole_rest part l rest (inr w) g some = left_ends (log_text l) rest w.0 some (sy
 
 -- ---- two parts
 
-module _ (last : Last) (m part u : List ℕ) (fits : length (part ++ u) ≤ nowhere) (whole : Whole part) where
+module _ (last : Option Machine) (m part u : List ℕ) (fits : length (part ++ u) ≤ nowhere) (whole : Whole part) where
   -- the entries accepted in the part are accepted in the two
-  longer : {l : List Machine} {last' : Last} {m' rest : List ℕ} → Accepted last m part l last' m' rest → Accepted last m (part ++ u) l last' m' (rest ++ u)
+  longer : {l : List Machine} {last' : Option Machine} {m' rest : List ℕ} → Accepted last m part l last' m' rest → Accepted last m (part ++ u) l last' m' (rest ++ u)
   longer {l} {last'} {m'} {rest} a = record {
     spellable = a.spellable;
     follow = a.follow;

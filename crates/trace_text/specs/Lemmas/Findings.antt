@@ -1,12 +1,15 @@
 -- Laws of a trace's text, for the proofs of the code.
-use Rattle.std.specs.Prelude.{ℕ, ◌+◌, ◌*◌, ◌^◌, ◌≤◌, ◌<◌, ◌≡◌, refl, List, [], ◌∷◌, ◌++◌, length}
+use Rattle.std.specs.Prelude.{ℕ, ◌+◌, ◌*◌, ◌^◌, ◌≤◌, ◌<◌, ◌≡◌, refl, List, [], ◌∷◌, ◌++◌, length, ◌≢◌}
 use Rattle.std.proofs.Common.{arith, length-append}
+use Rattle.laws.specs.Answers.{answer_of}
+use Rattle.laws.specs.declared.answers.Refusal.{Refusal}
+use Rattle.laws.specs.declared.answers.Refusal.TheVariants.{MemoryNotFull, NoCycleRoom, NotAnOpcode, BoundTooHigh, MalformedRecord, WrongSum, PastTheEnd, NoEnd, FirstAboveLast, NoRoom, MalformedEntry, StrayEntry, WouldRead, WouldStore, NotThere}
 use Rattle.laws.specs.Characters.{characters}
 use Rattle.text_writing.specs.Lemmas.Texts.{decimal_length}
 use Rattle.trace_text.specs.declared.View.{View}
 use Rattle.trace_text.specs.declared.View.TheVariants.{States, Steps}
 use Rattle.trace_text.specs.Entries.{step_line, longest}
-use Rattle.trace_text.specs.Findings.{right_or, verdict_line}
+use Rattle.trace_text.specs.Findings.{bad_line, finding, right_or, verdict_line}
 
 -- at most 27 characters stand after the instruction
 pub line_length : (t : List ℕ) (cycles first : ℕ) → cycles < 2 ^ 64 → length (step_line t cycles first) ≤ length t + 27
@@ -42,3 +45,22 @@ pub verdict_length : (answer line : ℕ) (right : List ℕ) → answer < 256 →
 verdict_length answer line right a l =
     simp length-append
     (omega (arith, right_length right, decimal_length 2 answer (omega arith), decimal_length 19 line (omega arith)))
+
+-- of any refusal but that of an entry that does not follow
+pub other_finding : (refusal : Refusal) (number : ℕ) → (refusal ≢ StrayEntry) → finding (answer_of refusal) number ≡ bad_line number (characters " is malformed, cut short or missing\n")
+unfolding finding
+other_finding MemoryNotFull number never = refl
+other_finding NoCycleRoom number never = refl
+other_finding NotAnOpcode number never = refl
+other_finding BoundTooHigh number never = refl
+other_finding MalformedRecord number never = refl
+other_finding WrongSum number never = refl
+other_finding PastTheEnd number never = refl
+other_finding NoEnd number never = refl
+other_finding FirstAboveLast number never = refl
+other_finding NoRoom number never = refl
+other_finding MalformedEntry number never = refl
+other_finding StrayEntry number never = absurd (never refl)
+other_finding WouldRead number never = refl
+other_finding WouldStore number never = refl
+other_finding NotThere number never = refl

@@ -10,7 +10,6 @@ overflow_add-made c = omega (arith, long_steps _ _ _ _ (rw c.idle.ensures at c.l
 pub returns-then-not-is_made : goal.returns-then-not-is_made
 returns-then-not-is_made c =
     halt _ _ _ _ _ _ c.loop-made.invariant.2 (omega arith) (rw c.idle.ensures at c.long_run-ended.ensures) (was_refused _ (sym c.is_made.ensures ∙ c.if-not-is_made.true))
-    ∙ rw c.new.ensures
 
 pub loop-made-preserved : goal.loop-made-preserved
 loop-made-preserved c = (
@@ -24,4 +23,4 @@ overflow_add-made-2 c = omega (arith, long_steps _ _ _ _ (rw c.idle-2.ensures at
 
 pub returns : goal.returns
 returns c =
-    c.loop-made.invariant.2 ∙ ap (added _) (rw c.idle-2.ensures at c.long_run-last.ensures) ∙ rw c.new-2.ensures
+    c.loop-made.invariant.2 ∙ ap (added _) (rw c.idle-2.ensures at c.long_run-last.ensures)

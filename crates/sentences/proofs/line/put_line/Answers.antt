@@ -1,15 +1,16 @@
--- By the answer's number.
-use native.Mathlib.Omega.{arith}
-use borrow.Author.Tests.{eq-eqb, ne_eqb}
+-- By whether there is a memory.
+use Rattle.std.proofs.Common.{arith}
+use Rattle.text_writing.specs.Lemmas.Writing.{ends_within}
 use Rattle.sentences.specs.Line.{line}
+use Rattle.sentences.specs.Lemmas.Lengths.{other_number}
 use Rattle.sentences.proofs.line.put_line.Goals as goal
 
-pub returns-then-from-eq-MEMORY_NOT_FULL : goal.returns-then-from-eq-MEMORY_NOT_FULL
+pub returns-in-MemoryNotFull : goal.returns-in-MemoryNotFull
 unfolding line
-returns-then-from-eq-MEMORY_NOT_FULL c =
+returns-in-MemoryNotFull c =
     let wrote = c.put_text.ensures in
-    rw (← c.from.ensures, eq-eqb _ _ c.if-from-eq-MEMORY_NOT_FULL.true) (record { wrote = wrote; upper_bound = omega (arith, wrote.ends) })
+    rw c.in-MemoryNotFull.is (record { wrote = wrote; upper_bound = ends_within wrote (omega arith) })
 
-pub returns : goal.returns
+pub returns-in_default : goal.returns-in_default
 unfolding line
-returns c = rw (← c.from.ensures, ne_eqb _ _ c.if-from-eq-MEMORY_NOT_FULL.false) c.put_fields.ensures
+returns-in_default c = rw (other_number _ c.in_default.not-MemoryNotFull) c.put_fields.ensures

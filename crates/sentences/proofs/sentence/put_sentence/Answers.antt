@@ -6,6 +6,6 @@ pub returns-then-reached : goal.returns-then-reached
 unfolding sentence
 returns-then-reached c = rw (← c.reached.ensures, c.if-reached.true) c.put_done.ensures
 
-pub returns : goal.returns
+pub returns-else-reached : goal.returns-else-reached
 unfolding sentence
-returns c = rw (← c.reached.ensures, c.if-reached.false) c.put_meaning.ensures
+returns-else-reached c = rw (← c.reached.ensures, c.if-reached.false) c.put_meaning.ensures

@@ -1,22 +1,19 @@
--- The answer picks the sentence.
-use native.Mathlib.Omega.{arith}
-use borrow.Author.Tests.{eq-eqb, ne_eqb}
+-- The refusal picks the sentence.
+use Rattle.std.proofs.Common.{arith}
 use Rattle.trace_text.specs.Findings.{finding}
+use Rattle.trace_text.specs.Lemmas.Findings.{other_finding}
 use Rattle.trace_text.proofs.finding.put_finding.Goals as goal
 
-pub returns-then-answer-eq-NOT_REFUSED : goal.returns-then-answer-eq-NOT_REFUSED
+pub returns-in_default : goal.returns-in_default
 unfolding finding
-returns-then-answer-eq-NOT_REFUSED c =
-    record { wrote = rw (eq-eqb _ _ c.if-answer-eq-NOT_REFUSED.true) c.put_accepted.ensures.wrote; upper_bound = c.put_accepted.ensures.upper_bound }
+returns-in_default c = rw c.in_default.is c.put_accepted.ensures
 
-pub returns-then-answer-eq-STRAY_ENTRY : goal.returns-then-answer-eq-STRAY_ENTRY
+pub returns-in-StrayEntry : goal.returns-in-StrayEntry
 unfolding finding
-returns-then-answer-eq-STRAY_ENTRY c =
-    let bad = c.put_bad.ensures in
-    record { wrote = rw (ne_eqb _ _ c.if-answer-eq-NOT_REFUSED.false, eq-eqb _ _ c.if-answer-eq-STRAY_ENTRY.true) bad.wrote; upper_bound = omega (arith, bad.upper_bound) }
+returns-in-StrayEntry c =
+    record { wrote = rw (c.in-Some.is, c.in-StrayEntry.is) c.put_bad.ensures.wrote; upper_bound = omega (arith, c.put_bad.ensures.upper_bound) }
 
-pub returns : goal.returns
-unfolding finding
-returns c =
-    let bad = c.put_bad-2.ensures in
-    record { wrote = rw (ne_eqb _ _ c.if-answer-eq-NOT_REFUSED.false, ne_eqb _ _ c.if-answer-eq-STRAY_ENTRY.false) bad.wrote; upper_bound = omega (arith, bad.upper_bound) }
+pub returns-in_default-refusal : goal.returns-in_default-refusal
+returns-in_default-refusal c =
+    let bad = c.put_bad-in_default-refusal.ensures in
+    record { wrote = rw (c.in-Some.is, other_finding c.in-Some.refusal c.args.number c.in_default-refusal.not-StrayEntry) bad.wrote; upper_bound = omega (arith, bad.upper_bound) }
