@@ -13,13 +13,7 @@ use text_writing::Writer;
 
 // Says how the run of the image that an argument names ended, and answers the status of that end. `image` is the one that the
 // run left.
-pub fn say_ending(
-    console: &mut Console,
-    index: usize,
-    goal: Goal,
-    ended: Ended,
-    image: &[u8],
-) -> u8
+pub fn say_ending(console: &mut Console, index: usize, goal: Goal, ended: Ended, image: &[u8]) -> u8
     ensures value { result ≡ end_status goal ended }
     ensures failure_stays { FailureStays console.old.failed console.new.failed }
 {

@@ -14,6 +14,9 @@ use statuses::{Goal, first_of};
 use trace_text::View;
 
 mod lines; // lines.rt: the run, with its lines
+mod parts; // parts.rt: a run that is made part by part
+
+pub use parts::{Parts, run_in_parts};
 
 // Shows the run of an image, says how it ended, and answers its status. If its lines cannot be written nothing is said of it.
 fn show_image(

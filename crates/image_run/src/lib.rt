@@ -21,9 +21,9 @@ fn start(counter: u16) -> Machine
 pub fn start_image(image: &[u8]) -> Machine
     ensures { result ≡ image_start image.now }
 {
-    if image.len() != FULL_MEMORY {
+    let Some(memory) = image.as_array::<FULL_MEMORY>() else {
         return start(0);
-    }
-    let first = address_from_bytes(read_address(image, Address(0xFFFC), Address(0xFFFD)));
+    };
+    let first = address_from_bytes(read_address(memory, Address(0xFFFC), Address(0xFFFD)));
     start(first.0)
 }

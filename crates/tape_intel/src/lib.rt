@@ -8,7 +8,7 @@ ghost use Rattle.tape_intel.specs.Inner.Items.{sum_right, told_data, told_end, t
 
 use laws::answers::Refusal;
 use tape_records::{Item, Parts, read_record};
-use text_reading::{read_byte, rest};
+use text_reading::read_byte;
 
 // Whether the sum of all bytes is 0 modulo 256. The last two are not in the sum that the parts have.
 fn right_sum(parts: Parts) -> bool
@@ -67,5 +67,8 @@ pub fn read_item(text: &[u8], before: u64) -> Result<Item, Refusal>
     let Some(parts) = read_record(text, b':') else {
         return Err(Refusal::MalformedRecord);
     };
-    judge(read_byte(rest(text, 7), 0).value, parts, before)
+    let Some(kind) = read_byte(text, 7) else {
+        return Err(Refusal::MalformedRecord);
+    };
+    judge(kind.value, parts, before)
 }

@@ -5,7 +5,7 @@ use Rattle.laws.specs.Characters.{characters}
 use Rattle.text_writing.specs.Numerals.{decimal}
 use Rattle.tape_loading.specs.declared.Format.{Format}
 use Rattle.tape_loading.specs.declared.Format.TheVariants.{Tape, Hex}
-use Rattle.tape_loading.specs.declared.Verdict.{Verdict}
+use Rattle.tape_loading.specs.Answers.{Verdict}
 
 -- the answers 5 and 8
 abbrev pub malformed : Format → List ℕ

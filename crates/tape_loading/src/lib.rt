@@ -1,114 +1,149 @@
 // A text of records read onto a lent memory.
 #![tactic(auto)]
 
-ghost use Rattle.std.specs.Prelude.{◌≤◌, ◌≡◌};
+ghost use Rattle.std.specs.Prelude.{◌≤◌, ◌≡◌, Err};
 ghost use Rattle.tape_records.specs.Contents.{laid, outcome, read_onto};
-ghost use Rattle.tape_records.specs.Inner.Items.{told};
+ghost use Rattle.std.proofs.Math.Option.{some};
+ghost use Rattle.text_writing.specs.Written.{Wrote};
+ghost use Rattle.tape_records.specs.Records.{bytes_of};
+ghost use Rattle.tape_records.specs.Inner.Reading.{values_at};
+ghost use Rattle.tape_records.specs.Inner.Items.{told, told_in};
 ghost use Rattle.tape_paper.specs.Tapes.{tape_of, read_tape};
 ghost use Rattle.tape_intel.specs.IntelHex.{read_hex};
 ghost use Rattle.tape_loading.specs.Inner.Formats.{item_of, head_size, contents_of};
-ghost use Rattle.tape_loading.specs.Inner.Following.{stop_at, next_of};
-ghost use Rattle.tape_loading.specs.Answers.{verdict_of, with_memory};
+ghost use Rattle.tape_loading.specs.Inner.Following.{next_in, next_of};
+ghost use Rattle.tape_loading.specs.Answers.{verdict_in, verdict_of, with_memory, number_and_reach};
 ghost use Rattle.tape_loading.specs.Texts.{format_of, read_text};
 
-use laws::answers::*;
+use laws::answers::{NOT_REFUSED, Refusal};
 use manual::FULL_MEMORY;
-use tape_records::{Item, skip_separators, store_bytes};
-use text_reading::rest;
+use tape_records::{Head, Item, skip_separators};
+use text_reading::{read_byte, rest};
+use text_writing::Writer;
 
 mod sentence; // sentence.rt: what a reader found, in words
 
 pub use sentence::{LONGEST_SENTENCE, put_sentence};
 
 // The formats: MOS paper tape, and Intel HEX.
-#[derive(Clone, Copy)]
+#[derive(Clone, Copy, PartialEq, Eq)]
 pub enum Format {
     Tape,
     Hex,
 }
 
-// What a text was found to be: the answer, how many good records stand before the first bad one, and where that begins, the
-// text's length if there is none.
+impl Format {
+    // The record with which a text begins, after so many data records.
+    fn read_item(self, text: &[u8], before: u64) -> Result<Item, Refusal>
+        ensures { told_in result ≡ told (item_of self before text.now) }
+    {
+        match self {
+            Format::Tape => tape_paper::read_item(text, before),
+            Format::Hex => tape_intel::read_item(text, before),
+        }
+    }
+
+    // How many bytes stand before the data of a record: its count and address, and in HEX its type.
+    fn head_size(self) -> usize
+        ensures { result ≡ head_size self }
+    {
+        match self {
+            Format::Tape => 3,
+            Format::Hex => 4,
+        }
+    }
+}
+
+// How far a text is good: how many good records stand before the first bad one, and where that begins, the text's length if there
+// is none.
 #[derive(Clone, Copy)]
-pub struct Verdict {
-    pub answer: u8,
+pub struct Reach {
     pub good: u64,
     pub place: usize,
+}
+
+// Why a text is refused, and how far it is good.
+#[derive(Clone, Copy)]
+pub struct Fault {
+    pub reason: Refusal,
+    pub reach: Reach,
+}
+
+// What a text was found to be.
+pub type Verdict = Result<Reach, Fault>;
+
+// What a host in C is told of a verdict: the answer, and how far the text is good.
+pub fn number_and_reach(verdict: Verdict) -> (u8, Reach)
+    ensures { result ≡ number_and_reach verdict }
+{
+    match verdict {
+        Ok(reach) => (NOT_REFUSED, reach),
+        Err(fault) => (fault.reason.into(), fault.reach),
+    }
+}
+
+// A text that is refused.
+fn refuse(reason: Refusal, good: u64, place: usize) -> Verdict
+    ensures { result ≡ Err (record { reason = reason; reach = record { good = good; place = place } }) }
+{
+    Err(Fault {
+        reason,
+        reach: Reach { good, place },
+    })
 }
 
 // What comes next in a text: a data record, with the place of its data and that at which the text goes on, or none.
 #[derive(Clone, Copy)]
 pub enum Next {
     Data {
-        address: u16,
-        count: u8,
+        head: Head,
         digits: usize,
         after: usize,
     },
     Stop(Verdict),
 }
 
-// The record with which a text begins, after so many data records.
-fn read_item(format: Format, text: &[u8], before: u64) -> Item
-    ensures { result ≡ told (item_of format before text.now) }
-{
-    match format {
-        Format::Tape => tape_paper::read_item(text, before),
-        Format::Hex => tape_intel::read_item(text, before),
-    }
-}
-
-// How many bytes stand before the data of a record: its count and address, and in HEX its type.
-fn head_size(format: Format) -> usize
-    ensures { result ≡ head_size format }
-{
-    match format {
-        Format::Tape => 3,
-        Format::Hex => 4,
-    }
-}
-
-// No data record comes next.
-fn stop(answer: u8, good: u64, place: usize) -> Next
-    ensures { result ≡ stop_at answer good place }
-{
-    Next::Stop(Verdict {
-        answer: answer,
-        good: good,
-        place: place,
-    })
-}
-
 // What comes next after so many data records, the last of which ends at a place.
 pub fn next_record(format: Format, text: &[u8], start: usize, before: u64) -> Next
     requires { before ≤ start }
-    ensures { result ≡ next_of format text.now start before }
+    ensures { next_in result ≡ next_of format text.now start before }
 {
     let size = text.len();
     let at = skip_separators(text, start);
     if size <= at {
-        return stop(NO_END, before, size);
+        return Next::Stop(refuse(Refusal::NoEnd, before, size));
     }
-    let item = read_item(format, rest(text, at), before);
-    match item {
-        Item::Bad(reason) => stop(reason, before, at),
-        Item::End => {
+    match format.read_item(rest(text, at), before) {
+        Err(reason) => Next::Stop(refuse(reason, before, at)),
+        Ok(Item::End) => {
+            let good = before + 1;
             let end = skip_separators(text, at + 11);
             if end < size {
-                return stop(MALFORMED_RECORD, before + 1, end);
+                return Next::Stop(refuse(Refusal::MalformedRecord, good, end));
             }
-            stop(NOT_REFUSED, before + 1, size)
+            Next::Stop(Ok(Reach { good, place: size }))
         }
-        Item::Data { address, count } => {
-            let head = head_size(format);
-            Next::Data {
-                address: address,
-                count: count,
-                digits: at + 1 + 2 * head,
-                after: at + 11 + 2 * (count as usize),
-            }
+        Ok(Item::Data(head)) => Next::Data {
+            head,
+            digits: at + 1 + 2 * format.head_size(),
+            after: at + head.size(),
+        },
+    }
+}
+
+// Stores the bytes of a data record, which stand at the start of a text. What would lie past the memory's end is dropped, as a
+// writer of text does it. Answers the address after them.
+fn store_bytes(text: &[u8], head: Head, memory: &mut [u8]) -> usize
+    requires { bytes_of head.count text.now ≡ some (values_at head.count text.now 0) }
+    ensures { Wrote memory.old head.address (values_at head.count text.now 0) memory.new result }
+{
+    let mut out = Writer::from(memory, head.address as usize);
+    for index in 0..head.count {
+        if let Some(byte) = read_byte(text, 2 * (index as usize)) {
+            out.put_byte(byte.value);
         }
     }
+    out.place()
 }
 
 // Stores the data records up to the first bad one.
@@ -119,18 +154,14 @@ fn lay(format: Format, text: &[u8], memory: &mut [u8]) -> Verdict
     let mut at: usize = 0;
     let mut before: u64 = 0;
     loop {
-        let next = next_record(format, text, at, before);
-        match next {
-            Next::Stop(verdict) => {
-                return verdict;
-            }
+        match next_record(format, text, at, before) {
+            Next::Stop(verdict) => return verdict,
             Next::Data {
-                address,
-                count,
+                head,
                 digits,
                 after,
             } => {
-                store_bytes(rest(text, digits), count, memory, address);
+                store_bytes(rest(text, digits), head, memory);
                 at = after;
                 before += 1;
             }
@@ -143,26 +174,17 @@ fn read(format: Format, text: &[u8], memory: &mut [u8]) -> Verdict
     ensures { with_memory result memory.new ≡ read_onto text.now (contents_of format text.now) memory.old }
 {
     if memory.len() != FULL_MEMORY {
-        return Verdict {
-            answer: MEMORY_NOT_FULL,
-            good: 0,
-            place: 0,
-        };
+        return refuse(Refusal::MemoryNotFull, 0, 0);
     }
-    let mut nothing = [0u8; 0];
-    let verdict = lay(format, text, &mut nothing);
-    if verdict.answer != NOT_REFUSED {
-        return verdict;
-    }
+    lay(format, text, &mut [])?;
     lay(format, text, memory)
 }
 
 // What a reader would answer of a paper tape, which is read onto no memory.
 pub fn judge_tape(text: &[u8]) -> Verdict
-    ensures { result ≡ verdict_of text.now (tape_of text.now) }
+    ensures { verdict_in result ≡ verdict_of text.now (tape_of text.now) }
 {
-    let mut nothing = [0u8; 0];
-    lay(Format::Tape, text, &mut nothing)
+    lay(Format::Tape, text, &mut [])
 }
 
 // The format of a text, by the mark of its first record. What has neither mark is read as a tape, and refused.
@@ -170,13 +192,11 @@ pub fn format_of(text: &[u8]) -> Format
     ensures { result ≡ format_of text.now }
 {
     let at = skip_separators(text, 0);
-    if text.len() <= at {
-        return Format::Tape;
+    if at < text.len() && text[at] == b':' {
+        Format::Hex
+    } else {
+        Format::Tape
     }
-    if text[at] == b':' {
-        return Format::Hex;
-    }
-    Format::Tape
 }
 
 // Reads a text of either format onto a memory.
@@ -187,6 +207,7 @@ pub fn read_text(text: &[u8], memory: &mut [u8]) -> Verdict
 }
 
 // Reads Intel HEX onto a memory.
+#[tactic(auto, unfolding(tape_intel::specs::IntelHex::read_hex, tape_intel::specs::IntelHex::hex_of))]
 pub fn read_hex(text: &[u8], memory: &mut [u8]) -> Verdict
     ensures { with_memory result memory.new ≡ read_hex text.now memory.old }
 {
@@ -194,6 +215,7 @@ pub fn read_hex(text: &[u8], memory: &mut [u8]) -> Verdict
 }
 
 // Reads a paper tape onto a memory.
+#[tactic(auto, unfolding(tape_paper::specs::Tapes::read_tape, tape_paper::specs::Tapes::tape_of))]
 pub fn read_tape(text: &[u8], memory: &mut [u8]) -> Verdict
     ensures { with_memory result memory.new ≡ read_tape text.now memory.old }
 {

@@ -5,19 +5,13 @@ ghost use Rattle.std.specs.Prelude.{◌≡◌, ◌≤◌, ◌+◌, ◌*◌, ◌/
 ghost use Rattle.std.specs.List.{prefix_len};
 ghost use Rattle.tape_records.specs.Records.{bytes_of, record_of, separator};
 ghost use Rattle.tape_records.specs.Inner.Gaps.{gap_end};
-ghost use Rattle.tape_records.specs.Inner.Reading.{summed, sum_in, found, values_at};
-ghost use Rattle.text_writing.specs.Written.{Wrote, Writes};
+ghost use Rattle.tape_records.specs.Inner.Reading.{summed, found};
+ghost use Rattle.text_reading.specs.Found.{found as read_found};
+ghost use Rattle.text_writing.specs.Written.{Writes};
 ghost use Rattle.text_writing.specs.Numerals.{hex2, hex4};
 
-use text_reading::{NOWHERE, read_byte, read_mark, read_word, rest};
+use text_reading::{Reading, read_byte, read_mark, read_word, rest};
 use text_writing::Writer;
-
-// The sum of some bytes, which goes round at 65,536, and where the text goes on.
-#[derive(Clone, Copy)]
-pub struct Sum {
-    pub value: u16,
-    pub next: usize,
-}
 
 // What a data record says before its data: where they go, and how many bytes they are.
 #[derive(Clone, Copy)]
@@ -64,37 +58,28 @@ pub enum Item {
     End,
 }
 
-// The sum of a record's first bytes, which stand after its mark.
-pub fn read_sum(text: &[u8], count: u16) -> Option<Sum>
-    ensures { sum_in result ≡ summed 0 1 (bytes_of count (drop 1 text.now)) }
+// The sum of a record's first bytes, which stand after its mark. It goes round at 65,536.
+pub fn read_sum(text: &[u8], count: u16) -> Option<Reading<u16>>
+    ensures { result ≡ read_found (summed 0 1 (bytes_of count (drop 1 text.now))) }
 {
     let mut value: u16 = 0;
     let mut next: usize = 1;
     for _ in 0..count {
-        let byte = read_byte(text, next);
-        if byte.next == NOWHERE {
-            return None;
-        }
+        let byte = read_byte(text, next)?;
         value = value.wrapping_add(byte.value as u16);
         next = byte.next;
     }
-    Some(Sum { value, next })
+    Some(Reading { value, next })
 }
 
 // The record with which a text begins.
 pub fn read_record(text: &[u8], mark: u8) -> Option<Parts>
     ensures { result ≡ found (record_of mark text.now) }
 {
-    let count = read_byte(text, read_mark(text, 0, mark));
-    if count.next == NOWHERE {
-        return None;
-    }
+    let count = read_byte(text, read_mark(text, 0, mark)?)?;
     let sum = read_sum(text, (count.value as u16) + 3)?;
-    let last = read_word(text, sum.next);
-    if last.next == NOWHERE {
-        return None;
-    }
-    let address = read_word(text, 3);
+    let last = read_word(text, sum.next)?;
+    let address = read_word(text, 3)?;
     Some(Parts {
         head: Head {
             address: address.value,
@@ -103,17 +88,6 @@ pub fn read_record(text: &[u8], mark: u8) -> Option<Parts>
         sum: sum.value,
         last: last.value,
     })
-}
-
-// Stores the bytes with which a text begins. What would lie past the memory's end is dropped, as a writer of text does it.
-pub fn store_bytes(text: &[u8], count: u8, memory: &mut [u8], address: u16) -> usize
-    ensures { Wrote memory.old address (values_at count text.now 0) memory.new result }
-{
-    let mut out = Writer::from(memory, address as usize);
-    for index in 0..count {
-        out.put_byte(read_byte(text, 2 * (index as usize)).value);
-    }
-    out.place()
 }
 
 // Writes a record's mark, its count and its address.

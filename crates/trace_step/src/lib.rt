@@ -1,15 +1,14 @@
 // A step that counts only if it leads to a given state: otherwise it is taken back.
 #![tactic(auto)]
 
-ghost use Rattle.std.specs.Prelude.{◌≡◌, length};
-ghost use Rattle.manual.specs.Stepping.{full_memory};
+ghost use Rattle.std.specs.Prelude.{◌≡◌};
 ghost use Rattle.trace_step.specs.Following.{same_registers, same_machine, leads_to, followed};
 ghost use Rattle.trace_step.specs.Inner.Restoring.{put_back};
 
 use cpu::single_step;
 use footprint::stores_of;
 use manual::{FULL_MEMORY, Lines, Machine, Stepped};
-use memory::{Address, get_byte, set_byte};
+use memory::{Address, Memory, get_byte, set_byte};
 use registers::{Registers, flag};
 
 // The status is compared as the byte that PHP pushes.
@@ -58,8 +57,7 @@ fn leads_to(stepped: Stepped, next: Machine) -> bool
 }
 
 // Puts a byte at each of the first three places.
-fn put_back(places: [u16; 5], first: u8, second: u8, third: u8, memory: &mut [u8])
-    requires { length memory.old ≡ full_memory }
+fn put_back(places: [u16; 5], first: u8, second: u8, third: u8, memory: &mut Memory)
     ensures { memory.new ≡ put_back places first second third memory.old }
 {
     set_byte(memory, Address(places[0]), first);
@@ -72,9 +70,9 @@ fn put_back(places: [u16; 5], first: u8, second: u8, third: u8, memory: &mut [u8
 pub fn follow(machine: Machine, next: Machine, memory: &mut [u8]) -> bool
     ensures { (result, memory.new) ≡ followed machine next memory.old }
 {
-    if memory.len() != FULL_MEMORY {
+    let Some(memory) = memory.as_mut_array::<FULL_MEMORY>() else {
         return false;
-    }
+    };
     let stored = stores_of(machine, Lines::idle(), memory);
     let places = stored.places;
     let first = get_byte(memory, Address(places[0]));

@@ -8,4 +8,5 @@ use Rattle.program_report.proofs.report_image.Goals as goal
 pub write_line-requires : goal.write_line-requires
 write_line-requires c =
     let image = c.args.image.now in
-    (omega (arith, c.report-ended.ensures.writes.wrote.ends, line_ends (exec (image_run (length image)) image).0), c.report-ended.ensures.upper_bound, search rules)
+    let ended = c.report-ended.ensures in
+    (omega (arith, ended.writes.wrote.ends, line_ends (exec (image_run (length image)) image).0), omega (arith, ended.upper_bound), search rules)

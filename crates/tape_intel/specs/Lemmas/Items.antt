@@ -1,17 +1,18 @@
 -- Laws of Items.antt.
 use Rattle.std.specs.Prelude.{ℕ, ◌+◌, ◌/◌, ◌%◌, ◌≤◌, ◌≡◌, refl, Bool, true, false, cond, not, List, [], ◌∷◌, eqb, ltb, length, get_or, take, drop, Some, None}
 use Rattle.std.proofs.Math.Path.{ap}
-use Rattle.std.proofs.Common.{sym, ◌∙◌, arith, length-drop, take-append-drop, length-take-le, get_or-take, get_or-drop}
+use Rattle.std.proofs.Common.{sym, ◌∙◌, arith, length-drop, take-append-drop, length-take-le, get_or-drop, drop-drop}
 use Rattle.std.proofs.Math.Option.{Option, some}
 use Rattle.laws.specs.Answers.{malformed_record, wrong_sum, past_the_end, no_end}
 use Rattle.text_reading.specs.Numbers.{nowhere, byte_at}
-use Rattle.text_reading.specs.declared.Byte.{Byte}
+use Rattle.text_reading.specs.declared.Reading.{Reading}
 use Rattle.tape_records.specs.declared.Parts.{Parts}
 use Rattle.tape_records.specs.Inner.Items.{Data, End, Bad}
-use Rattle.tape_records.specs.Records.{record_of, count, address, sum, last, total, word, Bytes}
+use Rattle.tape_records.specs.Lemmas.Places.{byte_at_lem, next_byte, bytes_from_lem}
+use Rattle.tape_records.specs.Records.{byte_of, record_of, count, address, sum, last, total, word, Bytes}
 use Rattle.tape_records.specs.Inner.Reading.{found, parts_of}
 use Rattle.tape_records.specs.Contents.{Stretch, stretch, finish, bad}
-use Rattle.tape_records.specs.Lemmas.Whole.{record_length, record_small, record_values}
+use Rattle.tape_records.specs.Lemmas.Whole.{record_bytes, record_length, record_small}
 use Rattle.tape_records.specs.Theorems.Sums.{bytes_drop, total_append}
 use Rattle.tape_records.specs.Lemmas.Items.{none_found, one_found, told_cond}
 use Rattle.tape_records.specs.Inner.Items.{told}
@@ -73,20 +74,29 @@ module _ (before : ℕ) (s : List ℕ) where
   unfolding hex_item
   item_malformed e = ap (λ (o : Option (List ℕ)). told (judge before o)) (none_found (record_of 58 s) e)
 
-  its_type : (bs : List ℕ) → record_of 58 s ≡ some bs → length s ≤ nowhere → (byte_at (drop 7 s) 0).value ≡ type bs
+  its_type : (bs : List ℕ) → record_of 58 s ≡ some bs → length s ≤ nowhere → byte_at s 7 ≡ record { value = type bs; next = 9 }
   its_type bs g fits =
-      ap (λ (l : List ℕ). get_or l 0 0) (record_values 58 s bs g fits 3 1 (omega arith))
-      ∙ get_or-take 1 (drop 3 bs) 0 0 (omega arith)
-      ∙ get_or-drop 3 bs 0 0
+      let three : 3 + (count bs + 2) ≡ count bs + 5 = omega arith in
+      let one : 1 + (count bs + 1) ≡ count bs + 2 = omega arith in
+      let after = bytes_from_lem 3 (count bs + 2) (drop 1 s) bs (rw three (record_bytes 58 s bs g)) in
+      let first = (next_byte 0 (count bs + 1) (drop 6 (drop 1 s)) (drop 3 bs) (rw one after)).0 in
+      let there : byte_of (drop 7 s) ≡ some (type bs) = rw (drop-drop 6 1 s, get_or-drop 3 bs 0 0) at first in
+      rw there at (byte_at_lem s fits 7)
 
   -- the type is the byte that is read after the address
-  pub item_by_parts : (p : Parts) {t : List ℕ} {kind : Byte} → Some p ≡ found (record_of 58 s) → length s ≤ nowhere → t ≡ drop 7 s
-      → kind ≡ byte_at t 0 → told (hex_item before s) ≡ told_by before kind.value p
-  unfolding hex_item
-  item_by_parts p {t} {kind} e fits r k =
-      let its = one_found (record_of 58 s) p e in
-      let kinds : kind.value ≡ type its.0 = rw (k, r) (its_type its.0 its.1 fits) in
-      ap (λ (o : Option (List ℕ)). told (judge before o)) its.1
-      ∙ by_bytes its.0 (record_length 58 s its.0 its.1) (record_small 58 s its.0 its.1) before
-      ∙ ap (told_by before (type its.0)) (sym its.2)
-      ∙ ap (λ (n : ℕ). told_by before n p) (sym kinds)
+  module _ {p : Parts} (e : Some p ≡ found (record_of 58 s)) (fits : length s ≤ nowhere) where
+    pub type_there : (byte_at s 7).next ≡ nowhere → ⊥
+    type_there z =
+        let its = one_found (record_of 58 s) p e in
+        let nine : 9 ≡ nowhere = rw (its_type its.0 its.1 fits) at z in
+        omega arith
+
+    pub item_by_parts : {kind : Reading ℕ} → byte_at s 7 ≡ kind → told (hex_item before s) ≡ told_by before kind.value p
+    unfolding hex_item
+    item_by_parts {kind} k =
+        let its = one_found (record_of 58 s) p e in
+        let kinds : kind.value ≡ type its.0 = rw (← k, its_type its.0 its.1 fits) in
+        ap (λ (o : Option (List ℕ)). told (judge before o)) its.1
+        ∙ by_bytes its.0 (record_length 58 s its.0 its.1) (record_small 58 s its.0 its.1) before
+        ∙ ap (told_by before (type its.0)) (sym its.2)
+        ∙ ap (λ (n : ℕ). told_by before n p) (sym kinds)

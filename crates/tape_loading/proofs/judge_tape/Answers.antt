@@ -1,8 +1,8 @@
 -- What is found while it is laid onto no memory.
-use mathlib.Core.Path.{ap}
+use Rattle.std.proofs.Common.{ap}
 use Rattle.tape_records.specs.Contents.{Loaded}
 use Rattle.tape_paper.specs.Tapes.{tape_of}
-use Rattle.tape_loading.specs.declared.Verdict.{Verdict}
+use Rattle.tape_loading.specs.Answers.{Verdict}
 use Rattle.tape_loading.proofs.judge_tape.Goals as goal
 
 found : Loaded → Verdict

@@ -1,5 +1,5 @@
-use mathlib.Core.Path.{refl, sym, ◌∙◌}
-use native.Mathlib.Omega.{arith}
+use Rattle.std.proofs.Common.{refl, sym, ap, ◌∙◌, arith}
+use Rattle.tape_loading.specs.Inner.Following.{next_in}
 use Rattle.tape_loading.specs.Lemmas.Going.{stops, comes, lay_stop, lay_data}
 use Rattle.tape_loading.proofs.lay.Goals as goal
 
@@ -14,24 +14,27 @@ returns-in-Stop c =
     let args = c.args in
     let text = c.args.text.now in
     sym (lay_stop args.format text c.loop-verdict.at c.loop-verdict.before c.loop-verdict.memory
-    (stops args.format text c.loop-verdict.at c.loop-verdict.before (omega arith) c.next_record-next.ensures c.in-Stop.is))
+    (stops args.format text c.loop-verdict.at c.loop-verdict.before (omega arith) c.next_record.ensures (ap next_in c.in-Stop.is)))
     ∙ c.loop-verdict.invariant.3
+
+pub store_bytes-requires : goal.store_bytes-requires
+store_bytes-requires c =
+    let next = comes c.args.format c.args.text.now c.loop-verdict.at c.loop-verdict.before (omega arith) c.next_record.ensures (ap next_in c.in-Data.is) in
+    rw c.rest.ensures next.read
 
 pub overflow_add-before : goal.overflow_add-before
 overflow_add-before c =
-    let args = c.args in
-    let next = comes args.format args.text.now c.loop-verdict.at c.loop-verdict.before (omega arith) c.next_record-next.ensures c.in-Data.is in
+    let next = comes c.args.format c.args.text.now c.loop-verdict.at c.loop-verdict.before (omega arith) c.next_record.ensures (ap next_in c.in-Data.is) in
     omega (arith, next.further, next.inside)
 
 pub loop-verdict-smaller : goal.loop-verdict-smaller
 loop-verdict-smaller c =
-    let args = c.args in
-    let next = comes args.format args.text.now c.loop-verdict.at c.loop-verdict.before (omega arith) c.next_record-next.ensures c.in-Data.is in
+    let next = comes c.args.format c.args.text.now c.loop-verdict.at c.loop-verdict.before (omega arith) c.next_record.ensures (ap next_in c.in-Data.is) in
     omega (arith, next.further, next.inside)
 
 pub loop-verdict-preserved : goal.loop-verdict-preserved
 loop-verdict-preserved c =
-    let next = comes c.args.format c.args.text.now c.loop-verdict.at c.loop-verdict.before (omega arith) c.next_record-next.ensures c.in-Data.is in (
+    let next = comes c.args.format c.args.text.now c.loop-verdict.at c.loop-verdict.before (omega arith) c.next_record.ensures (ap next_in c.in-Data.is) in (
       omega (arith, next.inside),
       omega (arith, next.further),
       omega (arith, c.loop-verdict.invariant.2),

@@ -1,7 +1,5 @@
 -- The loop's invariant: what the whole text gives is what is left of it gives from here.
-use Prim.Native.Nat.{◌-◌, ◌≤◌}
-use mathlib.Core.Path.{◌≡◌}
-use lib.ListN.{length}
+use Rattle.std.proofs.Common.{◌≡◌, ◌-◌, ◌≤◌, length}
 use Rattle.tape_records.specs.Contents.{laid, outcome}
 use Rattle.tape_loading.specs.Inner.Formats.{contents_of}
 use Rattle.tape_loading.specs.Lemmas.Going.{left_at}

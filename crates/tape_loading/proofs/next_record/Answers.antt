@@ -1,6 +1,6 @@
 -- One law for each way out, of what is found where the gap ends.
-use mathlib.Core.Path.{◌∙◌}
-use native.Mathlib.Omega.{arith}
+use Rattle.std.proofs.Common.{◌≡◌, ◌+◌, ◌*◌, Ok, ap, ◌∙◌, arith}
+use Rattle.tape_records.specs.Inner.Items.{told_in}
 use Rattle.tape_loading.specs.Lemmas.Formats.{head_small}
 use Rattle.tape_loading.specs.Lemmas.Following.{no_more, next_bad, next_stray, next_end, next_data}
 use Rattle.tape_loading.proofs.next_record.Goals as goal
@@ -8,43 +8,32 @@ use Rattle.tape_loading.proofs.next_record.Goals as goal
 pub returns-then-size-at : goal.returns-then-size-at
 returns-then-size-at c =
     let args = c.args in
-    let text = c.args.text.now in
-    c.stop.ensures
-    ∙ no_more args.format text args.start args.before c.skip_separators-at.ensures c.if-size-at.true
+    rw c.refuse.ensures (no_more args.format args.text.now args.start args.before c.skip_separators-at.ensures c.if-size-at.true)
 
 pub returns-then-end-size : goal.returns-then-end-size
 returns-then-end-size c =
     let args = c.args in
-    let text = c.args.text.now in
-    c.stop-then-end-size.ensures
-    ∙ next_stray args.format text args.start args.before c.skip_separators-at.ensures c.if-size-at.false c.rest.ensures c.read_item-item.ensures
-    c.in-End.is c.skip_separators-end.ensures c.if-end-size.true
+    rw c.refuse-then-end-size.ensures
+    (next_stray args.format args.text.now args.start args.before c.skip_separators-at.ensures c.if-size-at.false c.rest.ensures c.read_item.ensures
+    (ap told_in (c.in-Ok-End.is ∙ ap Ok c.in-Ok-End.field-0-is)) c.skip_separators-end.ensures c.if-end-size.true)
 
-pub overflow_mul-result : goal.overflow_mul-result
-overflow_mul-result c = omega (arith, c.head_size-head.ensures, head_small c.args.format)
-
-pub overflow_add-result-in-Data : goal.overflow_add-result-in-Data
-overflow_add-result-in-Data c = omega (arith, c.head_size-head.ensures, head_small c.args.format)
-
-pub returns-in-Bad : goal.returns-in-Bad
-returns-in-Bad c =
+pub returns-in-Err : goal.returns-in-Err
+returns-in-Err c =
     let args = c.args in
-    let text = c.args.text.now in
-    c.stop-in-Bad.ensures
-    ∙ next_bad args.format text args.start args.before c.skip_separators-at.ensures c.if-size-at.false c.rest.ensures c.read_item-item.ensures
-    c.in-Bad.is
+    rw c.refuse-in-Err.ensures
+    (next_bad args.format args.text.now args.start args.before c.skip_separators-at.ensures c.if-size-at.false c.rest.ensures c.read_item.ensures
+    (ap told_in c.in-Err.is))
 
 pub returns-else-end-size : goal.returns-else-end-size
 returns-else-end-size c =
     let args = c.args in
-    let text = c.args.text.now in
-    c.stop-in-End.ensures
-    ∙ next_end args.format text args.start args.before c.skip_separators-at.ensures c.if-size-at.false c.rest.ensures c.read_item-item.ensures
-    c.in-End.is c.skip_separators-end.ensures c.if-end-size.false
+    next_end args.format args.text.now args.start args.before c.skip_separators-at.ensures c.if-size-at.false c.rest.ensures c.read_item.ensures
+    (ap told_in (c.in-Ok-End.is ∙ ap Ok c.in-Ok-End.field-0-is)) c.skip_separators-end.ensures c.if-end-size.false
 
-pub returns-in-Data : goal.returns-in-Data
-returns-in-Data c =
+pub returns-in-Ok-Data : goal.returns-in-Ok-Data
+returns-in-Ok-Data c =
     let args = c.args in
-    let text = c.args.text.now in
-    next_data args.format text args.start args.before c.skip_separators-at.ensures c.if-size-at.false c.rest.ensures c.read_item-item.ensures
-    c.in-Data.is c.head_size-head.ensures
+    let after : c.skip_separators-at.result + c.size.result ≡ c.skip_separators-at.result + 11 + 2 * c.in-Ok-Data.head.count = omega (arith, c.size.ensures) in
+    rw after
+    (next_data args.format args.text.now args.start args.before c.skip_separators-at.ensures c.if-size-at.false c.rest.ensures c.read_item.ensures
+    (ap told_in (c.in-Ok-Data.is ∙ ap Ok c.in-Ok-Data.field-0-is)) c.head_size.ensures)

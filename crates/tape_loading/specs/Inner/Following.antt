@@ -4,9 +4,20 @@ use Rattle.laws.specs.Answers.{not_refused, malformed_record, no_end}
 use Rattle.tape_records.specs.Contents.{Item, stretch, finish, bad}
 use Rattle.tape_records.specs.Inner.Gaps.{gap_end}
 use Rattle.tape_loading.specs.declared.Format.{Format}
-use Rattle.tape_loading.specs.declared.Next.{Next}
-use Rattle.tape_loading.specs.declared.Next.TheVariants.{Data as Ahead, Stop}
+use Rattle.tape_loading.specs.declared.Next.{Next as Coming}
+use Rattle.tape_loading.specs.declared.Next.TheVariants.{Data as ComingData, Stop as ComingStop}
+use Rattle.tape_loading.specs.Answers.{Verdict, verdict_in}
 use Rattle.tape_loading.specs.Inner.Formats.{item_of, head_size}
+
+-- a data record: its address, how many bytes it has, the place of its data, and that at which the text goes on; or none
+pub data Next : Type 0 where
+  Ahead : ℕ → ℕ → ℕ → ℕ → Next
+  Stop : Verdict → Next
+
+-- the same of what the code answers
+abbrev pub next_in : Coming → Next
+next_in (ComingData head digits after) = Ahead head.address head.count digits after
+next_in (ComingStop verdict) = Stop (verdict_in verdict)
 
 abbrev pub stop_at : ℕ → ℕ → ℕ → Next
 stop_at answer good place = Stop (record { answer = answer; good = good; place = place })

@@ -10,7 +10,7 @@ use Rattle.tape_records.specs.Inner.Items.{Data, End, Bad}
 use Rattle.tape_records.specs.Inner.Items.{told}
 use Rattle.tape_records.specs.Lemmas.Items.{told_bad, told_end_lem, told_data_lem}
 use Rattle.tape_loading.specs.declared.Format.{Format}
-use Rattle.tape_loading.specs.declared.Next.TheVariants.{Data as Ahead}
+use Rattle.tape_loading.specs.Inner.Following.{Ahead}
 use Rattle.tape_loading.specs.Inner.Formats.{item_of, head_size}
 use Rattle.tape_loading.specs.Inner.Following.{stop_at, next_by, next_of}
 

@@ -6,9 +6,12 @@ use Rattle.std.proofs.Math.Bool.{true, false}
 use Rattle.std.proofs.Math.Option.{some}
 use Rattle.std.proofs.Math.Dec.{ltb}
 use Rattle.std.proofs.lemmas.List.Edits.{sets}
-use Rattle.laws.specs.Answers.{not_refused, malformed_record, no_end}
+use Rattle.laws.specs.declared.answers.Refusal.{Refusal}
+use Rattle.laws.specs.declared.answers.Refusal.TheVariants.{MemoryNotFull, NoCycleRoom, NotAnOpcode, BoundTooHigh, MalformedRecord, WrongSum, PastTheEnd, NoEnd, FirstAboveLast, NoRoom, MalformedEntry, StrayEntry, WouldRead, WouldStore, NotThere}
+use Rattle.laws.specs.Answers.{not_refused, malformed_record, no_end, answer_of}
 use Rattle.manual.specs.Stepping.{full_memory}
-use Rattle.text_reading.specs.Numbers.{nowhere}
+use Rattle.text_reading.specs.Numbers.{nowhere, byte_at}
+use Rattle.tape_records.specs.Lemmas.Places.{byte_at_lem, next_byte, bytes_from_lem}
 use Rattle.tape_records.specs.Records.{separator, bytes_of, hexes}
 use Rattle.tape_records.specs.Inner.Reading.{values_at}
 use Rattle.tape_records.specs.Contents.{Stretch, Item, stretch, finish, bad, Contents, stop, and_then, ended, contents, Loaded, laid, outcome, read_onto}
@@ -19,12 +22,11 @@ use Rattle.tape_records.specs.Lemmas.Scanning.{at_end, at_bad, at_finish, at_str
 use Rattle.tape_records.specs.Lemmas.Spelling.{bytes_spelled}
 use Rattle.tape_records.specs.Lemmas.Whole.{values}
 use Rattle.tape_loading.specs.declared.Format.{Format}
-use Rattle.tape_loading.specs.declared.Verdict.{Verdict}
-use Rattle.tape_loading.specs.declared.Next.{Next}
-use Rattle.tape_loading.specs.declared.Next.TheVariants.{Data as Ahead, Stop}
+use Rattle.tape_loading.specs.Answers.{Verdict}
+use Rattle.tape_loading.specs.Inner.Following.{Next, Ahead, Stop}
 use Rattle.tape_loading.specs.Inner.Formats.{item_of, head_size}
 use Rattle.tape_loading.specs.Lemmas.Formats.{head_small, known, end_room}
-use Rattle.tape_loading.specs.Answers.{with_memory}
+use Rattle.tape_loading.specs.Answers.{loaded}
 use Rattle.tape_loading.specs.Inner.Following.{stop_at, next_by, next_of}
 
 -- no data record comes next
@@ -143,7 +145,7 @@ abbrev pub left_at : Format → List ℕ → ℕ → ℕ → List ℕ → Loaded
 left_at f s at before m = outcome s (contents (item_of f) 0 before (drop at s)) (laid (contents (item_of f) 0 before (drop at s)).records m)
 
 module _ (f : Format) (s : List ℕ) (at before : ℕ) (m : List ℕ) where
-  pub lay_stop : {v : Verdict} → Stops f s at before v → left_at f s at before m ≡ with_memory v m
+  pub lay_stop : {v : Verdict} → Stops f s at before v → left_at f s at before m ≡ loaded v m
   lay_stop {v} k =
       let back : length s - (length s - v.place) ≡ v.place = omega (arith, k.within) in
       rw (k.says, back)
@@ -153,14 +155,42 @@ module _ (f : Format) (s : List ℕ) (at before : ℕ) (m : List ℕ) where
   lay_data k r e = rw (k.goes_on, e, r)
 
 -- What the first round finds, whatever it is laid onto, decides.
-module _ (s m : List ℕ) (c : Contents) (full : length m ≡ full_memory) {v : Verdict} {l l' : List ℕ} (first : with_memory v l' ≡ outcome s c l) where
+module _ (s m : List ℕ) (c : Contents) (full : length m ≡ full_memory) {v : Verdict} {l l' : List ℕ} (first : loaded v l' ≡ outcome s c l) where
   same_answer : v.answer ≡ c.answer
   same_answer = ap (λ (x : Loaded). x.answer) first
 
-  pub read_refused : (v.answer ≡ not_refused → ⊥) → with_memory v m ≡ read_onto s c m
+  pub read_refused : (v.answer ≡ not_refused → ⊥) → loaded v m ≡ read_onto s c m
   read_refused h =
       ap (λ (x : Loaded). record { answer = x.answer; good = x.good; place = x.place; memory = m }) first
       ∙ sym (read_bad s c m full (λ z. h (same_answer ∙ z)))
 
   pub read_laid : v.answer ≡ not_refused → {x : Loaded} → x ≡ outcome s c (laid c.records m) → x ≡ read_onto s c m
   read_laid z e = e ∙ sym (read_good s c m full (sym same_answer ∙ z))
+
+-- A byte of some that are there is read.
+pub byte_there : (n : ℕ) (s bs : List ℕ) → length s ≤ nowhere → bytes_of n s ≡ some bs → (i : ℕ) → i < n → n < 256 → (byte_at s (2 * i)).next ≡ nowhere → ⊥
+byte_there n s bs fits e i h few z =
+    let split : i + (1 + (n - i - 1)) ≡ n = omega arith in
+    let after = bytes_from_lem i (1 + (n - i - 1)) s bs (rw split e) in
+    let first = (next_byte 0 (n - i - 1) (drop (2 * i) s) (drop i bs) after).0 in
+    let next = rw first at (byte_at_lem s fits (2 * i)) in
+    let end : 2 * i + 2 ≡ nowhere = rw next at z in
+    omega arith
+
+-- No refusal has the answer 0.
+pub never_good : (r : Refusal) → answer_of r ≡ not_refused → ⊥
+never_good MemoryNotFull z = omega arith
+never_good NoCycleRoom z = omega arith
+never_good NotAnOpcode z = omega arith
+never_good BoundTooHigh z = omega arith
+never_good MalformedRecord z = omega arith
+never_good WrongSum z = omega arith
+never_good PastTheEnd z = omega arith
+never_good NoEnd z = omega arith
+never_good FirstAboveLast z = omega arith
+never_good NoRoom z = omega arith
+never_good MalformedEntry z = omega arith
+never_good StrayEntry z = omega arith
+never_good WouldRead z = omega arith
+never_good WouldStore z = omega arith
+never_good NotThere z = omega arith

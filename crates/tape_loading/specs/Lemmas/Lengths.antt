@@ -1,5 +1,5 @@
 -- A sentence is short.
-use Rattle.std.specs.Prelude.{ℕ, ◌+◌, ◌≤◌, ◌<◌, Bool, cond, List, ◌++◌, eqb}
+use Rattle.std.specs.Prelude.{ℕ, ◌+◌, ◌≤◌, ◌<◌, Bool, ◌≡◌, refl, Err, cond, List, ◌++◌, eqb}
 use Rattle.std.proofs.Math.Bool.{true, false}
 use native.Mathlib.Omega.{arith}
 use Rattle.std.proofs.Math.ListN.{length}
@@ -7,11 +7,16 @@ use Rattle.std.proofs.Common.{length-append}
 use Rattle.laws.specs.Answers.{not_refused, memory_not_full, malformed_record, wrong_sum, past_the_end}
 use Rattle.laws.specs.Characters.{characters}
 use Rattle.text_writing.specs.Numerals.{decimal}
-use Rattle.text_writing.specs.Written.{Wrote}
-use Rattle.text_writing.specs.Lemmas.Texts.{decimal_length, within}
+use Rattle.text_writing.specs.Written.{Writes}
+use Rattle.text_writing.specs.declared.Writer.{Writer}
+use Rattle.text_writing.specs.Lemmas.Writing.{ends_within}
+use Rattle.text_writing.specs.Lemmas.Texts.{decimal_length}
 use Rattle.tape_loading.specs.declared.Format.{Format}
 use Rattle.tape_loading.specs.declared.Format.TheVariants.{Tape, Hex}
-use Rattle.tape_loading.specs.declared.Verdict.{Verdict}
+use Rattle.laws.specs.declared.answers.Refusal.{Refusal}
+use Rattle.laws.specs.declared.answers.Refusal.TheVariants.{MemoryNotFull, NoCycleRoom, NotAnOpcode, BoundTooHigh, MalformedRecord, WrongSum, PastTheEnd, NoEnd, FirstAboveLast, NoRoom, MalformedEntry, StrayEntry, WouldRead, WouldStore, NotThere}
+use Rattle.tape_loading.specs.declared.Reach.{Reach}
+use Rattle.tape_loading.specs.Answers.{Verdict, verdict_in}
 use Rattle.tape_loading.specs.Sentence.{malformed, unended, reason, good_sentence, good_records, bad_sentence, sentence, longest_sentence}
 
 -- the longest reason
@@ -85,5 +90,25 @@ at_most Tape = omega arith
 at_most Hex = omega arith
 
 pub said : (f : Format) (v : Verdict) → v.good < 18446744073709551616 → v.place < 18446744073709551616
-    → {l l' : List ℕ} {at next : ℕ} → Wrote l at (sentence f v) l' next → Wrote l at (sentence f v) l' next × (next ≤ at + longest_sentence)
-said f v g p w = (w, omega (arith, within w (sentence_length f v g p), at_most f))
+    → {w w' : Writer} → Writes w (sentence f v) w' → w'.at ≤ w.at + longest_sentence
+said f v g p w = omega (arith, ends_within w (sentence_length f v g p), at_most f)
+
+-- Whatever is refused for another reason than its memory is bad.
+pub bad_text : (f : Format) (reach : Reach) (r : Refusal) → (r ≡ MemoryNotFull → ⊥)
+    → sentence f (verdict_in (Err (record { reason = r; reach = reach }))) ≡ bad_sentence f (verdict_in (Err (record { reason = r; reach = reach })))
+unfolding sentence
+bad_text f reach MemoryNotFull h = absurd (h refl)
+bad_text f reach NoCycleRoom h = refl
+bad_text f reach NotAnOpcode h = refl
+bad_text f reach BoundTooHigh h = refl
+bad_text f reach MalformedRecord h = refl
+bad_text f reach WrongSum h = refl
+bad_text f reach PastTheEnd h = refl
+bad_text f reach NoEnd h = refl
+bad_text f reach FirstAboveLast h = refl
+bad_text f reach NoRoom h = refl
+bad_text f reach MalformedEntry h = refl
+bad_text f reach StrayEntry h = refl
+bad_text f reach WouldRead h = refl
+bad_text f reach WouldStore h = refl
+bad_text f reach NotThere h = refl

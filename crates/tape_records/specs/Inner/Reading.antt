@@ -2,19 +2,14 @@
 use Rattle.std.specs.Prelude.{ℕ, zero, suc, ◌+◌, ◌*◌, ◌%◌, List, [], ◌∷◌, length, Option as Told, None, Some}
 use Rattle.std.proofs.Math.Option.{Option, none, some}
 use Rattle.text_reading.specs.Numbers.{nowhere, byte_at}
-use Rattle.tape_records.specs.declared.Sum.{Sum}
+use Rattle.text_reading.specs.declared.Reading.{Reading}
 use Rattle.tape_records.specs.declared.Parts.{Parts}
 use Rattle.tape_records.specs.Records.{total, count, address, sum, last}
 
 -- the sum after some more bytes, and the place after them
-abbrev pub summed : ℕ → ℕ → Option (List ℕ) → Sum
+abbrev pub summed : ℕ → ℕ → Option (List ℕ) → Reading ℕ
 summed value next none = record { value = 0; next = nowhere }
 summed value next (some bs) = record { value = (value + total bs) % 65536; next = next + 2 * length bs }
-
--- the sum that the code answers, if there is one
-abbrev pub sum_in : Told Sum → Sum
-sum_in None = record { value = 0; next = nowhere }
-sum_in (Some sum) = sum
 
 abbrev pub parts_of : List ℕ → Parts
 parts_of bs = record { head = record { address = address bs; count = count bs }; sum = sum bs; last = last bs }

@@ -3,9 +3,8 @@ use Rattle.std.specs.Prelude.{◌≡◌, ℕ, suc, ◌+◌, ◌*◌, ◌<◌, �
 use Rattle.std.proofs.Common.{ap, sym, ◌∙◌, zero-add, arith, lt-ltb, get_or-take, drop-drop}
 use Rattle.std.proofs.Math.Option.{Option, none, some}
 use Rattle.text_reading.specs.Numbers.{nowhere, byte_at, word_at, mark_at}
-use Rattle.text_reading.specs.declared.Byte.{Byte}
-use Rattle.text_reading.specs.declared.Word.{Word}
-use Rattle.tape_records.specs.declared.Sum.{Sum}
+use Rattle.text_reading.specs.declared.Reading.{Reading}
+use Rattle.text_reading.specs.Lemmas.Found.{lost_byte, lost_word}
 use Rattle.tape_records.specs.Records.{byte_of, bytes_of, counted, record_of, word, total}
 use Rattle.tape_records.specs.Inner.Reading.{summed, parts_of, found}
 use Rattle.tape_records.specs.Lemmas.Places.{past_byte, some_byte, no_byte, byte_at_lem, WordAt, word_at_lem, past_word, joined, bytes_split, bytes_length, next_byte, bytes_from_lem, bytes_to}
@@ -98,6 +97,15 @@ module _ (s : List ℕ) (fits : length s ≤ nowhere) (n : ℕ) (small : n < 256
       let pair : word (take 2 (drop 1 bs)) ≡ word (drop 1 bs) = rw (get_or-take 2 (drop 1 bs) 0 0 (omega arith), get_or-take 2 (drop 1 bs) 1 0 (omega arith)) in
       rw (front, lastword, word3, pair, ← number, zero-add (total (take (n + 3) bs)))
 
+  address_by : (bs : List ℕ) → bytes_of (n + 5) (drop 1 s) ≡ some bs → (word_at s 3).next ≡ 7
+  address_by bs e =
+      let first : 1 + (n + 4) ≡ n + 5 = omega arith in
+      let words : 2 + (n + 2) ≡ n + 4 = omega arith in
+      let after : bytes_of (n + 4) (drop 3 s) ≡ some (drop 1 bs) = rw (drop-drop 2 1 s) at (bytes_from_lem 1 (n + 4) (drop 1 s) bs (rw first e)) in
+      let address : bytes_of 2 (drop 3 s) ≡ some (take 2 (drop 1 bs)) = bytes_to 2 (n + 2) (drop 3 s) (drop 1 bs) (rw words after) in
+      let word3 : word_at s 3 ≡ record { value = word (take 2 (drop 1 bs)); next = 7 } = rw address at (word_at_lem s fits 3) in
+      rw word3
+
   missing : (word_at s (summed 0 1 body).next).next ≡ nowhere → bytes_of (n + 5) (drop 1 s) ≡ none
   missing h = whole ∙ missing_by body tail refl refl h
 
@@ -107,31 +115,43 @@ module _ (s : List ℕ) (fits : length s ≤ nowhere) (n : ℕ) (small : n < 256
   there none e f h = absurd (there_by body tail refl refl h (sym whole ∙ e))
   there (some bs) e f h = ap Some (parts_by bs e f)
 
--- For each way out of the code, what it found.
-module _ (mark : ℕ) (s : List ℕ) (fits : length s ≤ nowhere) {number : Byte} (counts : number ≡ byte_at s (mark_at mark s 0)) where
-  pub no_count : number.next ≡ nowhere → found (record_of mark s) ≡ None
-  no_count h = rw (none_counted mark s fits (rw counts at h))
+  there_address : (o : Option (List ℕ)) → bytes_of (n + 5) (drop 1 s) ≡ o → byte_of (drop 1 s) ≡ some n → ((word_at s (summed 0 1 body).next).next ≢ nowhere)
+      → (word_at s 3).next ≢ nowhere
+  there_address none e f h z = there_by body tail refl refl h (sym whole ∙ e)
+  there_address (some bs) e f h z = let seven = address_by bs e in omega (arith, z, seven)
 
-  module _
-      (small : number.value < 256)
-      (there-is : number.next ≡ nowhere → ⊥)
-      {sum : Sum}
-      (sums : sum ≡ summed 0 1 (bytes_of (number.value + 3) (drop 1 s)))
-      {last : Word}
-      (lasts : last ≡ word_at s sum.next)
-    where
+-- For each way out of the code, what it found: by the numbers that it read.
+module _ (mark : ℕ) (s : List ℕ) (fits : length s ≤ nowhere) where
+  pub no_mark : mark_at mark s 0 ≡ nowhere → None ≡ found (record_of mark s)
+  no_mark h = rw (none_counted mark s fits (lost_byte s fits (mark_at mark s 0) h))
+
+  module _ {place : ℕ} (marked : mark_at mark s 0 ≡ place) where
+    pub no_count : (byte_at s place).next ≡ nowhere → None ≡ found (record_of mark s)
+    no_count h = rw (none_counted mark s fits (rw marked h))
+
+    module _ {number : Reading ℕ} (counts : byte_at s place ≡ number) (small : number.value < 256) (there-is : (byte_at s place).next ≡ nowhere → ⊥) where
       with_number : (record_of mark s ≡ bytes_of (number.value + 5) (drop 1 s)) × (byte_of (drop 1 s) ≡ some number.value)
-      with_number = rw counts (with_count mark s fits (λ z. there-is (rw counts z)))
+      with_number = rw (← counts, ← marked) (with_count mark s fits (λ z. there-is (rw (← marked) z)))
 
-      pub cut_short : last.next ≡ nowhere → found (record_of mark s) ≡ None
-      cut_short h = rw (with_number.0, missing s fits number.value small (rw (lasts, sums) at h))
+      missing_last : (word_at s (summed 0 1 (bytes_of (number.value + 3) (drop 1 s))).next).next ≡ nowhere → None ≡ found (record_of mark s)
+      missing_last h = rw (with_number.0, missing s fits number.value small h)
 
-      pub whole_record : {place : Word} → place ≡ word_at s 3 → (last.next ≢ nowhere)
-          → found (record_of mark s) ≡ Some (record { head = record { address = place.value; count = number.value }; sum = sum.value; last = last.value })
-      whole_record places h =
-          rw (with_number.0, places, lasts, sums)
-          (there s fits number.value small (bytes_of (number.value + 5) (drop 1 s)) refl with_number.1 (λ z. h (rw (lasts, sums) z)))
+      pub no_sum : (summed 0 1 (bytes_of (number.value + 3) (drop 1 s))).next ≡ nowhere → None ≡ found (record_of mark s)
+      no_sum h = missing_last (lost_word s fits _ h)
 
-  pub no_sum : number.value < 256 → (number.next ≡ nowhere → ⊥)
-      → record { value = 0; next = nowhere } ≡ summed 0 1 (bytes_of (number.value + 3) (drop 1 s)) → found (record_of mark s) ≡ None
-  no_sum small there-is e = cut_short small there-is e {last = word_at s nowhere} refl (past_word s fits)
+      module _ {sum : Reading ℕ} (sums : summed 0 1 (bytes_of (number.value + 3) (drop 1 s)) ≡ sum) where
+        pub cut_short : (word_at s sum.next).next ≡ nowhere → None ≡ found (record_of mark s)
+        cut_short h = missing_last (rw sums h)
+
+        module _ (h : (word_at s sum.next).next ≡ nowhere → ⊥) where
+          last_there : (word_at s (summed 0 1 (bytes_of (number.value + 3) (drop 1 s))).next).next ≢ nowhere
+          last_there z = h (rw sums at z)
+
+          pub no_address : (word_at s 3).next ≡ nowhere → None ≡ found (record_of mark s)
+          no_address z = absurd (there_address s fits number.value small (bytes_of (number.value + 5) (drop 1 s)) refl with_number.1 last_there z)
+
+          pub whole_record : {last address : Reading ℕ} → word_at s sum.next ≡ last → word_at s 3 ≡ address
+              → Some (record { head = record { address = address.value; count = number.value }; sum = sum.value; last = last.value }) ≡ found (record_of mark s)
+          whole_record lasts places =
+              rw (with_number.0, ← lasts, ← places, ← sums)
+              (sym (there s fits number.value small (bytes_of (number.value + 5) (drop 1 s)) refl with_number.1 last_there))

@@ -3,14 +3,13 @@ use Rattle.std.specs.Prelude.{◌≡◌, ℕ, zero, suc, ◌+◌, ◌-◌, ◌*�
 use Rattle.std.proofs.Common.{ap, ◌∙◌, add-zero, zero-add, suc-add, length-drop, get_or-drop, drop-drop, lt-ltb, le-ltb}
 use Rattle.std.proofs.Math.Option.{Option, none, some}
 use native.Mathlib.Omega.{arith}
-use Rattle.text_reading.specs.declared.Byte.{Byte}
-use Rattle.text_reading.specs.declared.Word.{Word}
+use Rattle.text_reading.specs.declared.Reading.{Reading}
 use Rattle.text_reading.specs.Numbers.{nowhere, digit_value, no_digit, digit_at, byte_at, word_at}
 use Rattle.tape_records.specs.Records.{byte_of, before, bytes_of, word, total}
 use Rattle.tape_records.specs.Inner.Reading.{summed}
 
 -- a byte that was read at a place: its value and the place after it, or no place
-abbrev pub ByteAt : Option ℕ → ℕ → Byte → Type 0
+abbrev pub ByteAt : Option ℕ → ℕ → Reading ℕ → Type 0
 ByteAt none at r = r.next ≡ nowhere
 ByteAt (some b) at r = r ≡ record { value = b; next = at + 2 }
 
@@ -94,7 +93,7 @@ module _ (s : List ℕ) (fits : length s ≤ nowhere) where
             (rw (found.0, one, drop-drop 2 i s), found.1)
 
 -- a word, in the same way
-abbrev pub WordAt : Option (List ℕ) → ℕ → Word → Type 0
+abbrev pub WordAt : Option (List ℕ) → ℕ → Reading ℕ → Type 0
 WordAt none at r = r.next ≡ nowhere
 WordAt (some bs) at r = r ≡ record { value = word bs; next = at + 4 }
 

@@ -6,4 +6,4 @@ use Rattle.console_showing.proofs.lines.show_run.Goals as goal
 
 pub returns-clause-gives : goal.returns-clause-gives
 returns-clause-gives c = λ z.
-    started _ _ (λ s other. long_short _ _ _ s _ other) ∙ rw c.start_image-machine.ensures at (c.show_on.ensures.gives z)
+    started _ _ (λ s other. long_short _ _ _ s _ other) ∙ rw c.start_image-machine.ensures at (c.run_in_parts.ensures.gives z)

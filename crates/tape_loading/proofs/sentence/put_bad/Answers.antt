@@ -1,8 +1,8 @@
 -- One part after the other.
-use Rattle.text_writing.specs.Lemmas.Texts.{then}
+use Rattle.text_writing.specs.Lemmas.Writing.{after}
 use Rattle.tape_loading.proofs.sentence.put_bad.Goals as goal
 
 pub returns : goal.returns
 returns c =
-    let head = then (then (then (then c.put_text-after_refused.ensures c.put_decimal-after_good.ensures) c.put_good_records-after_records.ensures) c.put_decimal-after_place.ensures) c.put_text-after_characters.ensures in
-    then head c.put_reason.ensures
+    let head = after (after (after (after c.put_text.ensures c.put_decimal.ensures) c.put_good_records.ensures) c.put_decimal-2.ensures) c.put_text-2.ensures in
+    after head c.put_reason.ensures

@@ -1,28 +1,23 @@
--- By the answer; a sentence is short.
-use native.Mathlib.Omega.{arith}
-use borrow.Author.Tests.{eq-eqb, ne_eqb}
-use Rattle.text_writing.specs.Written.{Wrote}
+-- By the verdict; a sentence is short.
+use Rattle.std.proofs.Common.{Ok, Err, arith}
+use Rattle.text_writing.specs.Written.{Writes}
+use Rattle.tape_loading.specs.Answers.{verdict_in}
 use Rattle.tape_loading.specs.Sentence.{sentence}
-use Rattle.tape_loading.specs.Lemmas.Lengths.{said}
+use Rattle.tape_loading.specs.Lemmas.Lengths.{said, bad_text}
 use Rattle.tape_loading.proofs.sentence.put_sentence.Goals as goal
 
-pub returns-then-answer-eq-NOT_REFUSED : goal.returns-then-answer-eq-NOT_REFUSED
+pub returns-in-Ok : goal.returns-in-Ok
 unfolding sentence
-returns-then-answer-eq-NOT_REFUSED c =
-    let w : Wrote c.args.out.now c.args.at (sentence c.args.format c.args.verdict) c.put_good.new.out c.put_good.result =
-    rw (eq-eqb _ _ c.if-answer-eq-NOT_REFUSED.true) c.put_good.ensures in
-    record { wrote = w; upper_bound = (said c.args.format c.args.verdict (omega arith) (omega arith) w).1 }
+returns-in-Ok c =
+    let w : Writes c.args.out.now (sentence c.args.format (verdict_in (Ok c.in-Ok.reach))) c.put_good.new.out = c.put_good.ensures in
+    rw c.in-Ok.is (record { wrote = w; upper_bound = said c.args.format (verdict_in (Ok c.in-Ok.reach)) (omega arith) (omega arith) w })
 
-pub returns-then-answer-eq-MEMORY_NOT_FULL : goal.returns-then-answer-eq-MEMORY_NOT_FULL
+pub returns-in-MemoryNotFull-clause-wrote : goal.returns-in-MemoryNotFull-clause-wrote
 unfolding sentence
-returns-then-answer-eq-MEMORY_NOT_FULL c =
-    let w : Wrote c.args.out.now c.args.at (sentence c.args.format c.args.verdict) c.put_text.new.out c.put_text.result =
-    rw (ne_eqb _ _ c.if-answer-eq-NOT_REFUSED.false, eq-eqb _ _ c.if-answer-eq-MEMORY_NOT_FULL.true) c.put_text.ensures in
-    record { wrote = w; upper_bound = (said c.args.format c.args.verdict (omega arith) (omega arith) w).1 }
+returns-in-MemoryNotFull-clause-wrote c = rw (c.in-Err.is, c.in-MemoryNotFull.is) c.put_text.ensures
 
-pub returns : goal.returns
-unfolding sentence
-returns c =
-    let w : Wrote c.args.out.now c.args.at (sentence c.args.format c.args.verdict) c.put_bad.new.out c.put_bad.result =
-    rw (ne_eqb _ _ c.if-answer-eq-NOT_REFUSED.false, ne_eqb _ _ c.if-answer-eq-MEMORY_NOT_FULL.false) c.put_bad.ensures in
-    record { wrote = w; upper_bound = (said c.args.format c.args.verdict (omega arith) (omega arith) w).1 }
+pub returns-in_default : goal.returns-in_default
+returns-in_default c =
+    let w : Writes c.args.out.now (sentence c.args.format (verdict_in (Err c.in-Err.fault))) c.put_bad.new.out =
+    rw (bad_text c.args.format c.in-Err.fault.reach c.in-Err.fault.reason c.in_default.not-MemoryNotFull) c.put_bad.ensures in
+    rw c.in-Err.is (record { wrote = w; upper_bound = said c.args.format (verdict_in (Err c.in-Err.fault)) (omega arith) (omega arith) w })
