@@ -4,6 +4,9 @@
 ghost use Rattle.std.specs.Prelude.{◌≡◌};
 ghost use Rattle.trace_checking.specs.Checking.{checked_of, checked_trace};
 
+use laws::answers::NOT_REFUSED;
+use trace_checking::check_trace;
+
 // Checks a trace against an image.
 #[unsafe(no_mangle)]
 pub extern "C" fn mos6502_trace_check(
@@ -15,9 +18,16 @@ pub extern "C" fn mos6502_trace_check(
     ensures { (checked_of result line.new, copy.new)
         ≡ checked_trace image.now lines.now copy.old }
 {
-    let checked = trace_checking::check_trace(image, lines, copy);
-    *line = checked.line;
-    checked.answer
+    match check_trace(image, lines, copy) {
+        Ok(()) => {
+            *line = 0;
+            NOT_REFUSED
+        }
+        Err(bad) => {
+            *line = bad.line;
+            bad.refusal.into()
+        }
+    }
 }
 
 // The version of these functions. A host asks for it by this name, so that an older archive does not link, and the linker says

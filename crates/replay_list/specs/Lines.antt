@@ -1,12 +1,12 @@
 -- What stands at a place of a text line: a state, a list of cells.
-use Rattle.std.specs.Prelude.{ℕ, zero, suc, ◌+◌, ◌-◌, cond, List, eqb, length, get_or, set}
-use Rattle.text_reading.specs.declared.Byte.{Byte}
+use Rattle.std.specs.Prelude.{ℕ, zero, suc, ◌+◌, ◌-◌, cond, List, eqb, length, get_or, set, Option, Some, None}
+use Rattle.text_reading.specs.declared.Reading.{Reading}
 use Rattle.replay_list.specs.declared.State.{State}
 use Rattle.replay_list.specs.declared.Cell.{Cell}
 use Rattle.text_reading.specs.Numbers.{nowhere, byte_at, word_at, count_at, mark_at}
 
 -- a space and a byte
-unfoldable pub spaced_byte_at : List ℕ → ℕ → Byte
+unfoldable pub spaced_byte_at : List ℕ → ℕ → Reading ℕ
 spaced_byte_at s at = byte_at s (mark_at 32 s at)
 
 -- `NN LV PC A X Y S P CYCLES`: before a step NN is the opcode, after it the answer
@@ -33,6 +33,10 @@ state_at s at =
       cycles = cycles.value;
       next = cycles.next;
     }
+
+-- what the code answers: none where the next place is nowhere
+abbrev pub state_found : State → Option State
+state_found s = cond (eqb s.next nowhere) None (Some s)
 
 -- ` BB@AAAA`
 unfoldable pub cell_at : List ℕ → ℕ → Cell

@@ -8,9 +8,11 @@
 #![tactic(auto)]
 
 ghost use Rattle.std.specs.Prelude.{◌≡◌, ◌<◌, length, set};
-ghost use Rattle.replay_list.specs.Lines.{spaced_byte_at, state_at, cell_at, loaded_from, most_cells, bar_at, line_after};
+ghost use Rattle.text_reading.specs.Found.{found, place_found};
+ghost use Rattle.replay_list.specs.Inner.Cells.{cell_found};
+ghost use Rattle.replay_list.specs.Lines.{spaced_byte_at, state_at, state_found, cell_at, loaded_from, most_cells, bar_at, line_after};
 
-use text_reading::{Byte, NOWHERE, read_byte, read_count, read_mark, read_word};
+use text_reading::{Reading, read_byte, read_count, read_mark, read_word, rest};
 
 // A state as a text line has it, and where the text goes on. Its number is the opcode before a step, and the answer after it; the
 // status is as PHP pushes it.
@@ -36,26 +38,26 @@ struct Cell {
     next: usize,
 }
 
-fn read_spaced_byte(text: &[u8], at: usize) -> Byte
-    ensures { result ≡ spaced_byte_at text.now at }
+fn read_spaced_byte(text: &[u8], at: usize) -> Option<Reading<u8>>
+    ensures { result ≡ found (spaced_byte_at text.now at) }
 {
-    read_byte(text, read_mark(text, at, b' '))
+    read_byte(text, read_mark(text, at, b' ')?)
 }
 
 // The state at a place of a text line.
-pub fn read_state(text: &[u8], at: usize) -> State
-    ensures { result ≡ state_at text.now at }
+pub fn read_state(text: &[u8], at: usize) -> Option<State>
+    ensures { result ≡ state_found (state_at text.now at) }
 {
-    let number = read_byte(text, at);
-    let levels = read_spaced_byte(text, number.next);
-    let counter = read_word(text, read_mark(text, levels.next, b' '));
-    let accumulator = read_spaced_byte(text, counter.next);
-    let x = read_spaced_byte(text, accumulator.next);
-    let y = read_spaced_byte(text, x.next);
-    let stack = read_spaced_byte(text, y.next);
-    let status = read_spaced_byte(text, stack.next);
-    let cycles = read_count(text, read_mark(text, status.next, b' '));
-    State {
+    let number = read_byte(text, at)?;
+    let levels = read_spaced_byte(text, number.next)?;
+    let counter = read_word(text, read_mark(text, levels.next, b' ')?)?;
+    let accumulator = read_spaced_byte(text, counter.next)?;
+    let x = read_spaced_byte(text, accumulator.next)?;
+    let y = read_spaced_byte(text, x.next)?;
+    let stack = read_spaced_byte(text, y.next)?;
+    let status = read_spaced_byte(text, stack.next)?;
+    let cycles = read_count(text, read_mark(text, status.next, b' ')?)?;
+    Some(State {
         number: number.value,
         levels: levels.value,
         counter: counter.value,
@@ -66,19 +68,19 @@ pub fn read_state(text: &[u8], at: usize) -> State
         status: status.value,
         cycles: cycles.value,
         next: cycles.next,
-    }
+    })
 }
 
-fn read_cell(text: &[u8], at: usize) -> Cell
-    ensures { result ≡ cell_at text.now at }
+fn read_cell(text: &[u8], at: usize) -> Option<Cell>
+    ensures { result ≡ cell_found (cell_at text.now at) }
 {
-    let byte = read_spaced_byte(text, at);
-    let address = read_word(text, read_mark(text, byte.next, b'@'));
-    Cell {
+    let byte = read_spaced_byte(text, at)?;
+    let address = read_word(text, read_mark(text, byte.next, b'@')?)?;
+    Some(Cell {
         byte: byte.value,
         address: address.value,
         next: address.next,
-    }
+    })
 }
 
 // A store past the end does nothing.
@@ -97,24 +99,21 @@ pub fn load_bytes(text: &[u8], at: usize, memory: &mut [u8]) -> usize
     ensures { loaded_from most_cells text.now at memory.old ≡ (result, memory.new) }
 {
     let mut next = at;
-    let mut left: u64 = 64;
-    while 0 < left {
-        let cell = read_cell(text, next);
-        if cell.next == NOWHERE {
-            return next;
-        }
+    for _ in 0..64u64 {
+        let Some(cell) = read_cell(text, next) else {
+            break;
+        };
         store(memory, cell.address, cell.byte);
         next = cell.next;
-        left -= 1;
     }
     next
 }
 
 // The bar before a list of bytes, after a space.
-pub fn read_bar(text: &[u8], at: usize) -> usize
-    ensures { result ≡ bar_at text.now at }
+pub fn read_bar(text: &[u8], at: usize) -> Option<usize>
+    ensures { result ≡ place_found (bar_at text.now at) }
 {
-    read_mark(text, read_mark(text, at, b' '), b'|')
+    read_mark(text, read_mark(text, at, b' ')?, b'|')
 }
 
 // The place after the line in which `at` stands.
@@ -122,13 +121,11 @@ pub fn next_line(text: &[u8], at: usize) -> usize
     ensures value { result ≡ line_after text.now at }
     ensures lower_bound { at < length text.now → at < result }
 {
-    let mut next = at;
-    while next < text.len() {
-        let character = text[next];
-        next += 1;
-        if character == b'\n' {
-            return next;
-        }
+    match rest(text, at)
+        .iter()
+        .position(|&character| character == b'\n')
+    {
+        Some(index) => at + index + 1,
+        None => at.max(text.len()),
     }
-    next
 }

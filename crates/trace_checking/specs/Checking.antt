@@ -12,6 +12,8 @@ use Rattle.text_writing.specs.Delivered.{answer_in}
 use Rattle.trace_line.specs.declared.Spelled.{Spelled}
 use Rattle.trace_line.specs.Fields.{line_of}
 use Rattle.trace_step.specs.Following.{followed}
+use Rattle.trace_checking.specs.declared.Part.{Part as Shown}
+use Rattle.trace_checking.specs.declared.Bad.{Bad}
 
 -- what a part shows, in numbers: the answer, how many entries are accepted, and the last of them
 pub record Part : Type 0 where

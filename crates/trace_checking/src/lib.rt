@@ -81,10 +81,12 @@ pub fn whole_lines(text: &[u8]) -> usize
     ensures value { result ≡ whole_end text.now }
     ensures upper_bound { result ≤ length text.now }
 {
-    match text.iter().rposition(|character| *character == b'\n') {
-        None => 0,
-        Some(last) => last + 1,
+    for last in (0..text.len()).rev() {
+        if text[last] == b'\n' {
+            return last + 1;
+        }
     }
+    0
 }
 
 // What all entries of a trace show: a trace without an entry is malformed too, entry 1 is missing.

@@ -1,8 +1,7 @@
 // A step that counts only if it leads to a given state: otherwise it is taken back.
 #![tactic(auto)]
 
-ghost use Rattle.std.specs.Prelude.{◌≡◌, length};
-ghost use Rattle.manual.specs.Stepping.{full_memory};
+ghost use Rattle.std.specs.Prelude.{◌≡◌};
 ghost use Rattle.trace_step.specs.Following.{same_registers, same_machine, leads_to, followed};
 ghost use Rattle.trace_step.specs.Inner.Restoring.{put_back};
 

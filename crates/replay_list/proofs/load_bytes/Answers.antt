@@ -1,27 +1,16 @@
-use mathlib.Core.Path.{refl, ◌∙◌}
-use native.Mathlib.Omega.{arith}
+-- One cell more at each turn.
+use Rattle.std.proofs.Common.{◌+◌, ◌-◌, ◌∙◌, arith}
 use Rattle.replay_list.specs.Lemmas.Loops.{load_full, load_end, load_more}
 use Rattle.replay_list.proofs.load_bytes.Goals as goal
 
-pub loop-left-init : goal.loop-left-init
-loop-left-init c = (refl, refl)
-
-pub shape_of-memory-then-cell : goal.shape_of-memory-then-cell
-shape_of-memory-then-cell c = c.loop-left.invariant.0
-
-pub returns-then-cell : goal.returns-then-cell
-returns-then-cell c = c.loop-left.invariant.1 ∙ load_end _ _ _ c.read_cell-cell.ensures _ (omega arith) c.if-cell.true
-
-pub loop-left-preserved : goal.loop-left-preserved
-loop-left-preserved c = (
-  omega (arith, c.loop-left.invariant.0),
-  c.loop-left.invariant.1
-      ∙ load_more _ _ _ c.read_cell-cell.ensures _ (omega arith) c.if-cell.false
-      ∙ rw c.store.ensures,
+pub loop-preserved : goal.loop-preserved
+loop-preserved c = (
+  omega (arith, c.loop.invariant.0),
+  c.loop.invariant.1 ∙ load_more _ _ _ c.in-Some.ensures _ (64 - (c.loop.counter + 1)) (omega arith) ∙ rw c.store.ensures,
 )
 
-pub shape_of-memory : goal.shape_of-memory
-shape_of-memory c = c.loop-left.invariant.0
+pub returns-after-loop : goal.returns-after-loop
+returns-after-loop c = c.loop.invariant.1 ∙ load_full _ _ _ _ (omega arith)
 
-pub returns : goal.returns
-returns c = c.loop-left.invariant.1 ∙ load_full _ _ _ _ (omega arith)
+pub returns-in_default : goal.returns-in_default
+returns-in_default c = c.loop.invariant.1 ∙ load_end _ _ _ _ c.in_default.ensures

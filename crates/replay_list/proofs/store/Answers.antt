@@ -1,6 +1,6 @@
 -- Past the end the list's own store does nothing either.
-use mathlib.Core.Path.{sym}
-use lib.Seq.{set_out}
+use Rattle.std.proofs.Common.{sym}
+use Rattle.std.proofs.Math.Seq.{set_out}
 use Rattle.replay_list.proofs.store.Goals as goal
 
 pub returns-else-index-memory : goal.returns-else-index-memory

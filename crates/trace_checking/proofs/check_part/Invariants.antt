@@ -6,8 +6,7 @@ use Rattle.trace_checking.specs.Checking.{later, checked_part}
 use Rattle.trace_checking.proofs.check_part.Given as goal
 
 abbrev pub invariant-loop-at : goal.invariant-loop-at
-invariant-loop-at l = (length l.copy ≡ length l.initial.copy)
-    × (21 * l.lines ≤ l.at)
+invariant-loop-at l = (21 * l.lines ≤ l.at)
     × (l.at ≤ length l.part)
     × (checked_part l.initial.last l.initial.copy l.part ≡ later 0 l.lines l.last l.copy (drop l.at l.part))
 
