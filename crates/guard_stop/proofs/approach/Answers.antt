@@ -6,8 +6,7 @@ use mathlib.Core.Bool.{true}
 use native.Mathlib.Omega.{arith}
 use lib.ListN.{length}
 use Rattle.guard_maps.specs.Maps.{in_map, nowhere}
-use Rattle.guard.specs.declared.Guarded.{Guarded}
-use Rattle.guard.specs.Guarded.{guarded_full}
+use Rattle.guard.specs.Guarded.{Guarded, guarded_full}
 use Rattle.guard_stop.specs.Lemmas.Nearing.{once_nears, ran_there, ran_elsewhere, halted_later, halted_first}
 use Rattle.guard_stop.proofs.approach.Goals as goal
 

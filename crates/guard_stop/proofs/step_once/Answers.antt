@@ -3,8 +3,7 @@ use Prim.Native.Nat.{◌+◌, ◌-◌}
 use mathlib.Core.Path.{◌≡◌}
 use native.Mathlib.Omega.{arith}
 use Rattle.guard_maps.specs.Maps.{nowhere}
-use Rattle.guard.specs.declared.Guarded.{Guarded}
-use Rattle.guard.specs.Guarded.{guarded_full}
+use Rattle.guard.specs.Guarded.{Guarded, guarded_full}
 use Rattle.guard_stop.specs.Lemmas.Nearing.{once_ran, once_not_halted}
 use Rattle.guard_stop.proofs.step_once.Goals as goal
 
