@@ -77,6 +77,11 @@ module _ (reads stores : ℕ → Bool) (lines : Lines) where
   comes zero k s m = (omega arith, omega arith, inr (refl, refl))
   comes (suc j) k s m = by_step j k s m (ahead_of reads stores lines s m) _ refl (comes j (k + 1) _ _)
 
+-- ---- the answer of a guarded run, by its case
+
+pub told_by : {w v : Guarded} {e : List ℕ} {x : Guarded × List ℕ} → (w, e) ≡ x → w ≡ v → (v, e) ≡ x
+told_by g is = rw is at g
+
 -- ---- one step, with nothing guarded
 
 none_first : (l : List ℕ) → first_in nowhere l ≡ None
@@ -269,3 +274,7 @@ module _ (size stop bound : ℕ) (lines : Lines) (s : Machine) where
   pub to_whole : size ≡ full_memory → run_to size stop bound lines s ≡ run_while (elsewhere stop) bound 0 lines s
   unfolding run_to
   to_whole e = simp (eq-eqb _ _ e)
+
+  -- what is left of it from a later machine gives what the whole of it gives
+  pub arrives : (m : List ℕ) → size ≡ full_memory → {w : Ended × List ℕ} → toward stop bound lines 0 s m ≡ w → exec (run_to size stop bound lines s) m ≡ w
+  arrives m full e = let all : bound - 0 ≡ bound = omega arith in rw (to_whole full) (rw all at e)
