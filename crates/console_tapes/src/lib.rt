@@ -7,12 +7,13 @@ ghost use Rattle.std.specs.Prelude.{◌≤◌, ◌≡◌, take};
 ghost use Rattle.statuses.specs.Statuses.{first_of};
 ghost use Rattle.tape_moving.specs.Moving.{moved_from};
 
-use console::{Console, Done};
-use laws::answers::*;
+use console::{Console, Done, name_from, refuse};
+use laws::answers::{NO_ROOM, NOT_REFUSED, Refusal};
 use statuses::first_of;
-use tape_loading::{Format, LONGEST_SENTENCE, Verdict, format_of, put_sentence};
+use tape_loading::{Fault, Format, LONGEST_SENTENCE, Verdict, format_of, put_sentence};
 use tape_moving::move_text;
 use tape_paper::tape_buffer;
+use text_writing::Writer;
 
 // Reads it into a tape buffer, and answers its size. One that fills the buffer may be longer, and is refused.
 pub fn read_tape_input(console: &mut Console, index: usize, tape: &mut [u8]) -> usize
@@ -33,45 +34,43 @@ pub fn say_verdict(console: &mut Console, index: usize, format: Format, verdict:
     ensures { FailureStays console.old.failed console.new.failed }
 {
     let mut text = [0u8; LONGEST_SENTENCE];
-    let size = put_sentence(&mut text, 0, format, verdict);
+    let mut out = Writer::new(&mut text);
+    put_sentence(&mut out, format, verdict);
+    let size = out.place();
     console.say_of(index, &text[..size]);
 }
 
-fn explain(console: &mut Console, index: usize, from: Format, verdict: Verdict)
+// Says of a text that is refused from its start on whether it is one for the other program.
+fn point_out(console: &mut Console, index: usize, from: Format, text: &[u8])
     ensures { FailureStays console.old.failed console.new.failed }
 {
-    if verdict.answer == NO_ROOM {
+    match (from, format_of(text)) {
+        (Format::Tape, Format::Hex) => {
+            console.say_of(index, b"it is Intel HEX: ./run tape makes a tape of it\n");
+        }
+        (Format::Hex, Format::Tape) => {
+            console.say_of(
+                index,
+                b"it is no Intel HEX: ./run hex makes that of a tape\n",
+            );
+        }
+        _ => {}
+    }
+}
+
+// Says why a text is not moved.
+fn explain(console: &mut Console, index: usize, from: Format, fault: Fault, text: &[u8])
+    ensures { FailureStays console.old.failed console.new.failed }
+{
+    if fault.reason == Refusal::NoRoom {
         return console.say_of(
             index,
             b"refused: the new text has more than 1048576 characters\n",
         );
     }
-    say_verdict(console, index, from, verdict);
-}
-
-// Says of a text that is refused from its start on whether it is one for the other program.
-fn point_out(console: &mut Console, index: usize, from: Format, verdict: Verdict, text: &[u8])
-    ensures { FailureStays console.old.failed console.new.failed }
-{
-    if verdict.answer != MALFORMED_RECORD || verdict.good != 0 {
-        return;
-    }
-    match from {
-        Format::Tape => match format_of(text) {
-            Format::Tape => {}
-            Format::Hex => {
-                console.say_of(index, b"it is Intel HEX: ./run tape makes a tape of it\n");
-            }
-        },
-        Format::Hex => match format_of(text) {
-            Format::Tape => {
-                console.say_of(
-                    index,
-                    b"it is no Intel HEX: ./run hex makes that of a tape\n",
-                );
-            }
-            Format::Hex => {}
-        },
+    say_verdict(console, index, from, Err(fault));
+    if fault.reason == Refusal::MalformedRecord && fault.reach.good == 0 {
+        point_out(console, index, from, text);
     }
 }
 
@@ -79,16 +78,20 @@ fn point_out(console: &mut Console, index: usize, from: Format, verdict: Verdict
 fn print_moved(console: &mut Console, index: usize, from: Format, text: &[u8], out: &mut [u8]) -> u8
     ensures { result ≡ first_of console.new.failed (moved_from from text.now out.old).answer }
 {
-    let moved = move_text(from, text, out);
-    let size = moved.size;
-    let verdict = moved.verdict;
-    console.write_output(&out[..size]);
-    if console.failed != 0 {
-        return console.failed;
-    }
-    explain(console, index, from, verdict);
-    point_out(console, index, from, verdict, text);
-    first_of(console.failed, verdict.answer)
+    let answer = match move_text(from, text, out) {
+        Ok(moved) => {
+            console.write_output(&out[..moved.size]);
+            if console.failed == 0 {
+                say_verdict(console, index, from, Ok(moved.reach));
+            }
+            NOT_REFUSED
+        }
+        Err(fault) => {
+            explain(console, index, from, fault, text);
+            u8::from(fault.reason)
+        }
+    };
+    first_of(console.failed, answer)
 }
 
 // Reads the text that an argument names, which has a format, and prints it in the other one. The buffers are lent, so that
@@ -103,17 +106,12 @@ pub fn move_input(
     ensures { result.status ≡ first_of console.new.failed (moved_from from (take result.size text.new) out.old).answer }
 {
     let size = read_tape_input(console, index, text);
-    if console.failed != 0 {
-        return Done {
-            size: size,
-            status: console.failed,
-        };
-    }
-    let status = print_moved(console, index, from, &text[..size], out);
-    Done {
-        size: size,
-        status: status,
-    }
+    let status = if console.failed != 0 {
+        console.failed
+    } else {
+        print_moved(console, index, from, &text[..size], out)
+    };
+    Done { size, status }
 }
 
 // Moves the text that an argument names, and answers the status.
@@ -121,6 +119,13 @@ pub fn move_argument(rt: HostRuntime, index: usize, from: Format) -> u8 {
     let mut text = tape_buffer();
     let mut out = tape_buffer();
     let mut console = Console::new(rt);
-    let done = move_input(&mut console, index, from, &mut text, &mut out);
-    done.status
+    move_input(&mut console, index, from, &mut text, &mut out).status
+}
+
+// Moves the text that the only argument names, or says what the program takes.
+pub fn move_by_arguments(rt: HostRuntime, from: Format, usage: &[u8]) -> u8 {
+    match name_from(rt, 1) {
+        Some(index) => move_argument(rt, index, from),
+        None => refuse(rt, usage),
+    }
 }

@@ -5,8 +5,7 @@ use Rattle.manual.specs.declared.Machine.{Machine}
 use Rattle.manual.specs.declared.Reason.TheVariants.{MemoryNotFull}
 use Rattle.manual.specs.Stepping.{full_memory}
 use Rattle.guard_maps.specs.Maps.{nowhere}
-use Rattle.guard.specs.declared.Guarded.{Guarded}
-use Rattle.guard.specs.Guarded.{ran, guarded_full}
+use Rattle.guard.specs.Guarded.{Guarded, ran, guarded_full}
 
 -- zeros at the sealed addresses of a part of the memory that begins at i
 abbrev pub blanked_from : (ℕ → Bool) → ℕ → List ℕ → List ℕ

@@ -1,5 +1,5 @@
 -- A run that is halted before a step that would touch a guarded address.
-use Rattle.std.specs.Prelude.{ℕ, zero, suc, ◌+◌, Bool, cond, List, ◌==◌, Option, Some, None}
+use Rattle.std.specs.Prelude.{ℕ, zero, suc, ◌+◌, Bool, cond, List, ◌==◌, Option, Some, None, Ok, Err, Result}
 use Rattle.manual.specs.declared.Lines.{Lines}
 use Rattle.manual.specs.declared.Machine.{Machine}
 use Rattle.manual.specs.declared.Reason.{Reason}
@@ -7,16 +7,21 @@ use Rattle.manual.specs.declared.Reason.TheVariants.{Made, MemoryNotFull}
 use Rattle.manual.specs.Micro.{exec}
 use Rattle.manual.specs.Outcomes.{is_made, ended}
 use Rattle.manual.specs.Stepping.{full_memory, step_full}
+use Rattle.manual.specs.declared.Ended.{Ended}
+use Rattle.guard.specs.declared.Halt.{Halt}
 use Rattle.guard_maps.specs.declared.Touch.{Touch}
 use Rattle.guard_maps.specs.Maps.{ahead_of}
-use Rattle.guard.specs.declared.Guarded.{Guarded}
+
+-- what a guarded run answers: the run's own answer, or where it was halted
+abbrev pub Guarded : Type 0
+Guarded = Result Ended Halt
 
 -- what the run gives, or what its next step would touch, with the steps made and the machine before that step
 abbrev pub ran : Reason → ℕ → Machine → Guarded
-ran reason k s = Guarded.Ran (ended reason k s)
+ran reason k s = Ok (ended reason k s)
 
 abbrev pub halted : Touch → ℕ → Machine → Guarded
-halted t k s = Guarded.Halted (record { touch = t; steps = k; machine = s })
+halted t k s = Err (record { touch = t; steps = k; machine = s })
 
 abbrev pub unless : {A : Type 0} → Option Touch → (Touch → A) → A → A
 unless None stop go = go

@@ -1,3 +1,4 @@
 pub mod AnyGuard
 pub mod Blanking
 pub mod Guarding
+pub mod Patrolling

@@ -5,21 +5,19 @@
 ghost use Rattle.std.specs.Prelude.{◌≡◌, ◌+◌, ◌-◌, ◌<◌, false, not, ◌&&◌, length, if◌then◌else◌, Some};
 ghost use Rattle.manual.specs.Outcomes.{machine_of};
 ghost use Rattle.manual.specs.Interrupts.{due};
-ghost use Rattle.manual.specs.Stepping.{full_memory};
 ghost use Rattle.cpu.specs.Inner.Turning.{raised, Calm, Fits, stretch};
 ghost use Rattle.guard_maps.specs.Maps.{in_map};
-ghost use Rattle.guard.specs.Guarded.{ran, halted, guarded_full, guarded};
+ghost use Rattle.guard.specs.Guarded.{guarded_full, guarded};
 
 use cpu::{fitting, reach};
-use guard_maps::{Ahead, MAP_SIZE, Touch, look_ahead};
-use guard_near::{is_low_guarded, may_touch};
+use guard_maps::{Guards, Touch};
+use guard_near::Near;
 use manual::{Ended, FULL_MEMORY, HIGHEST_COUNT, Lines, Machine, Reason, SERVING_CYCLES};
-use memory::{Address, get_byte};
-use opcode_effects::{STEP};
+use memory::{Address, Memory, get_byte};
+use opcode_effects::STEP;
 use opcode_rows::dispatch;
 use registers::Registers;
 use stack::serve;
-use std::num::{wrapping_add_u64, wrapping_sub_u64};
 
 pub mod extract; // extract.rt: a run whose memory may be handed out whole
 
@@ -32,40 +30,13 @@ pub struct Halt {
 }
 
 // What a guarded run answers: the run's own answer, if no step touched a guarded byte, or where it was halted.
-#[derive(Clone, Copy)]
-pub enum Guarded {
-    Ran(Ended),
-    Halted(Halt),
-}
-
-impl Guarded {
-    // A halt from its parts.
-    fn halted(touch: Touch, steps: u64, machine: Machine) -> Guarded
-        ensures { result ≡ halted touch steps machine }
-    {
-        Guarded::Halted(Halt {
-            touch: touch,
-            steps: steps,
-            machine: machine,
-        })
-    }
-
-    // The answer of a run, from its parts.
-    pub fn ran(reason: Reason, steps: u64, machine: Machine) -> Guarded
-        ensures { result ≡ ran reason steps machine }
-    {
-        Guarded::Ran(Ended::new(reason, steps, machine))
-    }
-}
+pub type Guarded = Result<Ended, Halt>;
 
 // The machine after some steps of a patrol: if one was made it has the present level of NMI.
 fn kept(begun: bool, start: Machine, nmi: bool, registers: Registers, cycles: u64) -> Machine
     ensures { result ≡ machine_of registers cycles (if begun then nmi else start.nmi) }
 {
-    if begun {
-        return Machine::new(registers, cycles, nmi);
-    }
-    Machine::new(registers, cycles, start.nmi)
+    Machine::new(registers, cycles, if begun { nmi } else { start.nmi })
 }
 
 // The steps from `made` to `bound` on a full memory, with IRQ high and NMI not falling. The compiler puts all that a step does into
@@ -76,15 +47,14 @@ fn patrol(
     nmi: bool,
     made: u64,
     bound: u64,
-    reads: &[u8; MAP_SIZE],
-    stores: &[u8; MAP_SIZE],
-    memory: &mut [u8],
+    guards: Guards,
+    memory: &mut Memory,
 ) -> Guarded
-    requires { (length memory.old ≡ full_memory) × ((start.nmi && not nmi) ≡ false) × Fits start.cycles (bound - made) }
+    requires { ((start.nmi && not nmi) ≡ false) × Fits start.cycles (bound - made) }
     ensures { (result, memory.new)
         ≡ guarded_full
-        (in_map reads.now)
-        (in_map stores.now)
+        (in_map guards.entry.reads.now)
+        (in_map guards.entry.stores.now)
         (bound - made)
         made
         (raised nmi)
@@ -92,36 +62,34 @@ fn patrol(
         memory.old }
 {
     if HIGHEST_COUNT < start.cycles {
-        return Guarded::ran(Reason::NoCycleRoom, made, start);
+        return Ok(Ended::new(Reason::NoCycleRoom, made, start));
     }
-    let low = is_low_guarded(reads, stores);
-    let given = start.registers;
-    let mut registers = given.kept_apart();
+    let near = Near::new(guards);
+    let mut registers = start.registers.kept_apart();
     let mut clock: u64 = (bound - made - 1) * STEP;
     loop {
-        if may_touch(low, reads, stores, registers, memory) {
+        if near.may_touch(registers, memory) {
             let steps = bound - 1 - clock / STEP;
             let cycles = start.cycles + clock % STEP;
-            let left = kept(made < steps, start, nmi, registers, cycles);
-            let high = Lines {
-                irq: true,
-                nmi: nmi,
-            };
-            let ahead = look_ahead(reads, stores, left, high, memory);
-            if let Ahead::Touches(touch) = ahead {
-                return Guarded::halted(touch, steps, left);
+            let machine = kept(made < steps, start, nmi, registers, cycles);
+            let high = Lines { irq: true, nmi };
+            if let Some(touch) = guards.look_ahead(machine, high, memory) {
+                return Err(Halt {
+                    touch,
+                    steps,
+                    machine,
+                });
             }
         }
         let opcode = get_byte(memory, Address(registers.counter));
         match dispatch(opcode, registers, memory) {
             Some(performed) => {
-                let after = performed.registers;
-                registers = after.kept_apart();
-                let next = wrapping_sub_u64(clock, performed.ticks);
+                registers = performed.registers.kept_apart();
+                let next = clock.wrapping_sub(performed.ticks);
                 if clock < performed.ticks {
-                    let cycles = start.cycles + wrapping_add_u64(next, STEP);
+                    let cycles = start.cycles + next.wrapping_add(STEP);
                     let left = Machine::new(registers, cycles, nmi);
-                    return Guarded::ran(Reason::Made, bound, left);
+                    return Ok(Ended::new(Reason::Made, bound, left));
                 }
                 clock = next;
             }
@@ -129,7 +97,7 @@ fn patrol(
                 let steps = bound - 1 - clock / STEP;
                 let cycles = start.cycles + clock % STEP;
                 let left = kept(made < steps, start, nmi, registers, cycles);
-                return Guarded::ran(Reason::NotAnOpcode, steps, left);
+                return Ok(Ended::new(Reason::NotAnOpcode, steps, left));
             }
         }
     }
@@ -141,24 +109,26 @@ fn serve_line(
     start: Machine,
     steps: u64,
     lines: Lines,
-    reads: &[u8; MAP_SIZE],
-    stores: &[u8; MAP_SIZE],
-    memory: &mut [u8],
+    guards: Guards,
+    memory: &mut Memory,
 ) -> Guarded
-    requires { (length memory.old ≡ full_memory) × (due lines start ≡ Some vector) × (steps + 1 < 18446744073709551616) }
+    requires { (due lines start ≡ Some vector) × (steps + 1 < 18446744073709551616) }
     ensures { (result, memory.new)
-        ≡ guarded_full (in_map reads.now) (in_map stores.now) 1 steps lines start memory.old }
+        ≡ guarded_full (in_map guards.entry.reads.now) (in_map guards.entry.stores.now) 1 steps lines start memory.old }
 {
     if HIGHEST_COUNT < start.cycles {
-        return Guarded::ran(Reason::NoCycleRoom, steps, start);
+        return Ok(Ended::new(Reason::NoCycleRoom, steps, start));
     }
-    let ahead = look_ahead(reads, stores, start, lines, memory);
-    if let Ahead::Touches(touch) = ahead {
-        return Guarded::halted(touch, steps, start);
+    if let Some(touch) = guards.look_ahead(start, lines, memory) {
+        return Err(Halt {
+            touch,
+            steps,
+            machine: start,
+        });
     }
     let registers = serve(vector, start.registers, memory);
     let left = Machine::new(registers, start.cycles + SERVING_CYCLES, lines.nmi);
-    Guarded::ran(Reason::Made, steps + 1, left)
+    Ok(Ended::new(Reason::Made, steps + 1, left))
 }
 
 // A turn, after cpu's: a line that is due is served, or the steps to `bound` are made, between which no line can become due.
@@ -167,15 +137,14 @@ fn turn(
     steps: u64,
     bound: u64,
     lines: Lines,
-    reads: &[u8; MAP_SIZE],
-    stores: &[u8; MAP_SIZE],
-    memory: &mut [u8],
+    guards: Guards,
+    memory: &mut Memory,
 ) -> Guarded
-    requires { (length memory.old ≡ full_memory) × Calm lines (bound - steps) × (steps < bound) × Fits start.cycles (bound - steps) }
+    requires { Calm lines (bound - steps) × (steps < bound) × Fits start.cycles (bound - steps) }
     ensures { (result, memory.new)
         ≡ guarded_full
-        (in_map reads.now)
-        (in_map stores.now)
+        (in_map guards.entry.reads.now)
+        (in_map guards.entry.stores.now)
         (stretch (due lines start) (bound - steps))
         steps
         lines
@@ -183,8 +152,8 @@ fn turn(
         memory.old }
 {
     match lines.due(start) {
-        Some(vector) => serve_line(vector, start, steps, lines, reads, stores, memory),
-        None => patrol(start, lines.nmi, steps, bound, reads, stores, memory),
+        Some(vector) => serve_line(vector, start, steps, lines, guards, memory),
+        None => patrol(start, lines.nmi, steps, bound, guards, memory),
     }
 }
 
@@ -195,15 +164,13 @@ pub fn guarded_part(
     made: u64,
     bound: u64,
     lines: Lines,
-    reads: &[u8; MAP_SIZE],
-    stores: &[u8; MAP_SIZE],
-    memory: &mut [u8],
+    guards: Guards,
+    memory: &mut Memory,
 ) -> Guarded
-    requires { length memory.old ≡ full_memory }
     ensures { (result, memory.new)
         ≡ guarded_full
-        (in_map reads.now)
-        (in_map stores.now)
+        (in_map guards.entry.reads.now)
+        (in_map guards.entry.stores.now)
         (bound - made)
         made
         lines
@@ -214,45 +181,37 @@ pub fn guarded_part(
     let mut steps: u64 = made;
     while steps < bound {
         let far = steps + reach(lines.irq, fitting(bound - steps, machine.cycles));
-        let turned = turn(machine, steps, far, lines, reads, stores, memory);
-        match turned {
-            Guarded::Ran(ended) => {
-                let reason = ended.reason;
-                if !reason.is_made() {
-                    return turned;
-                }
-                machine = ended.machine;
-                steps = ended.steps;
-            }
-            Guarded::Halted(_) => {
-                return turned;
-            }
+        let ended = turn(machine, steps, far, lines, guards, memory)?;
+        if !ended.reason.is_made() {
+            return Ok(ended);
         }
+        machine = ended.machine;
+        steps = ended.steps;
     }
-    Guarded::ran(Reason::Made, steps, machine)
+    Ok(Ended::new(Reason::Made, steps, machine))
 }
 
 // A run of at most `bound` steps, any number of them, with some addresses guarded against reads and some against stores.
+#[tactic(auto, unfolding(crate::specs::Guarded::guarded))]
 pub fn guarded_run(
     machine: Machine,
     bound: u64,
     lines: Lines,
-    reads: &[u8; MAP_SIZE],
-    stores: &[u8; MAP_SIZE],
+    guards: Guards,
     memory: &mut [u8],
 ) -> Guarded
     ensures { (result, memory.new)
         ≡ guarded
-        (in_map reads.now)
-        (in_map stores.now)
+        (in_map guards.entry.reads.now)
+        (in_map guards.entry.stores.now)
         (length memory.old)
         bound
         lines
         machine
         memory.old }
 {
-    if memory.len() != FULL_MEMORY {
-        return Guarded::ran(Reason::MemoryNotFull, 0, machine);
-    }
-    guarded_part(machine, 0, bound, lines, reads, stores, memory)
+    let Some(memory) = memory.as_mut_array::<FULL_MEMORY>() else {
+        return Ok(Ended::new(Reason::MemoryNotFull, 0, machine));
+    };
+    guarded_part(machine, 0, bound, lines, guards, memory)
 }

@@ -2,7 +2,7 @@
 use Rattle.std.specs.Prelude.{ℕ, Bool, List, length}
 use Rattle.manual.specs.Interrupts.{idle}
 use Rattle.image_run.specs.Report.{image_start}
-use Rattle.guard.specs.declared.Guarded.{Guarded}
+use Rattle.guard.specs.Guarded.{Guarded}
 use Rattle.guard.specs.Extract.{blanked, extract}
 
 -- the extract of the image, from the address at FFFC; an image of another length is refused

@@ -4,76 +4,71 @@
 
 ghost use Rattle.std.specs.Prelude.{◌+◌, ◌<◌, ◌≡◌, true, false, eqb, length};
 ghost use Rattle.manual.specs.Micro.{Gives};
-ghost use Rattle.manual.specs.Stepping.{full_memory, run_full};
+ghost use Rattle.manual.specs.Stepping.{run_full};
 ghost use Rattle.guard_maps.specs.Maps.{in_map, nowhere};
 ghost use Rattle.guard_stop.specs.Stop.{run_to, stop_answer};
 ghost use Rattle.guard_stop.specs.Inner.Nearing.{Nears};
 
-use guard::{Guarded, guarded_part};
-use guard_maps::{MAP_SIZE, empty_map, put_in};
-use laws::answers::*;
+use guard::guarded_part;
+use guard_maps::{Guards, Map, empty_map, put_in};
+use laws::answers::Refusal;
 use manual::{Ended, FULL_MEMORY, Lines, Machine, Reason};
+use memory::Memory;
 
 // Whether a machine is at an address.
 fn is_at(machine: Machine, stop: u16) -> bool
     ensures { result ≡ eqb machine.registers.counter stop }
 {
-    let registers = machine.registers;
-    registers.counter == stop
+    machine.registers.counter == stop
 }
 
 // One step, with nothing guarded.
-fn step_once(
-    start: Machine,
-    steps: u64,
-    lines: Lines,
-    none: &[u8; MAP_SIZE],
-    memory: &mut [u8],
-) -> Ended
-    requires { (length memory.old ≡ full_memory) × (in_map none.now ≡ nowhere) × (steps + 1 < 18446744073709551616) }
+fn step_once(start: Machine, steps: u64, lines: Lines, none: &Map, memory: &mut Memory) -> Ended
+    requires { (in_map none.now ≡ nowhere) × (steps + 1 < 18446744073709551616) }
     ensures { Gives (run_full 1 steps lines start) memory.old result memory.new }
 {
-    match guarded_part(start, steps, steps + 1, lines, none, none, memory) {
-        Guarded::Ran(ended) => ended,
-        Guarded::Halted(halt) => Ended::new(Reason::Made, halt.steps, halt.machine),
+    let guards = Guards {
+        reads: none,
+        stores: none,
+    };
+    match guarded_part(start, steps, steps + 1, lines, guards, memory) {
+        Ok(ended) => ended,
+        Err(halt) => Ended::new(Reason::Made, halt.steps, halt.machine),
     }
 }
 
 // Some steps of the run to `stop` from another address, one at least unless it is refused: all of them or, while IRQ is low and a
-// line can become due between two, one.
+// line can become due between two, one. `guards` has `stop` against reads, and nothing against stores.
 fn approach(
     start: Machine,
     steps: u64,
     stop: u16,
     bound: u64,
     lines: Lines,
-    stops: &[u8; MAP_SIZE],
-    none: &[u8; MAP_SIZE],
-    memory: &mut [u8],
+    guards: Guards,
+    memory: &mut Memory,
 ) -> Ended
-    requires { (length memory.old ≡ full_memory)
-        × (in_map stops.now stop ≡ true)
-        × (in_map none.now ≡ nowhere)
+    requires { (in_map guards.reads.now stop ≡ true)
+        × (in_map guards.stores.now ≡ nowhere)
         × (steps < bound)
         × (eqb start.registers.counter stop ≡ false) }
     ensures { Nears stop bound lines steps start memory.old result memory.new }
 {
     if !lines.irq {
-        return step_once(start, steps, lines, none, memory);
+        return step_once(start, steps, lines, guards.stores, memory);
     }
-    let guarded = guarded_part(start, steps, bound, lines, stops, none, memory);
-    match guarded {
-        Guarded::Ran(ended) => {
+    match guarded_part(start, steps, bound, lines, guards, memory) {
+        Ok(ended) => {
             if is_at(ended.machine, stop) {
                 return Ended::new(Reason::Made, ended.steps, ended.machine);
             }
             ended
         }
-        Guarded::Halted(halt) => {
+        Err(halt) => {
             if steps < halt.steps {
                 return Ended::new(Reason::Made, halt.steps, halt.machine);
             }
-            step_once(start, steps, lines, none, memory)
+            step_once(start, steps, lines, guards.stores, memory)
         }
     }
 }
@@ -82,21 +77,24 @@ fn approach(
 pub fn run_to(start: Machine, stop: u16, bound: u64, lines: Lines, memory: &mut [u8]) -> Ended
     ensures { Gives (run_to (length memory.old) stop bound lines start) memory.old result memory.new }
 {
-    if memory.len() != FULL_MEMORY {
+    let Some(memory) = memory.as_mut_array::<FULL_MEMORY>() else {
         return Ended::new(Reason::MemoryNotFull, 0, start);
-    }
+    };
     let none = empty_map();
     let mut stops = empty_map();
     put_in(&mut stops, stop);
+    let guards = Guards {
+        reads: &stops,
+        stores: &none,
+    };
     let mut machine = start;
     let mut steps: u64 = 0;
     while steps < bound {
         if is_at(machine, stop) {
             return Ended::new(Reason::Made, steps, machine);
         }
-        let ended = approach(machine, steps, stop, bound, lines, &stops, &none, memory);
-        let reason = ended.reason;
-        if !reason.is_made() {
+        let ended = approach(machine, steps, stop, bound, lines, guards, memory);
+        if !ended.reason.is_made() {
             return ended;
         }
         machine = ended.machine;
@@ -105,16 +103,12 @@ pub fn run_to(start: Machine, stop: u16, bound: u64, lines: Lines, memory: &mut 
     Ended::new(Reason::Made, steps, machine)
 }
 
-// The answer of such a run: 0 only if the counter is at the address.
+// The answer of such a run: 0 only if the counter is at the address. A number, since mos6502_run_to alone asks for it.
 pub fn stop_answer(ended: Ended, stop: u16) -> u8
     ensures { result ≡ stop_answer stop ended }
 {
-    let reason = ended.reason;
-    if !reason.is_made() {
-        return u8::from(reason);
+    if ended.reason.is_made() && !is_at(ended.machine, stop) {
+        return u8::from(Refusal::NotThere);
     }
-    if is_at(ended.machine, stop) {
-        return NOT_REFUSED;
-    }
-    NOT_THERE
+    u8::from(ended.reason)
 }

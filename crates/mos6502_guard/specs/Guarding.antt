@@ -1,11 +1,10 @@
 -- The guarded run and the extract on numbers.
-use Rattle.std.specs.Prelude.{ℕ, Bool, List, ltb, length}
+use Rattle.std.specs.Prelude.{ℕ, Bool, List, ltb, length, Ok, Err}
 use Rattle.manual.specs.declared.Machine.{Machine}
 use Rattle.manual.specs.Outcomes.{number}
 use Rattle.mos6502_numbers.specs.Machines.{machine_from, lines_from, registers_after, cycles_after}
 use Rattle.guard_maps.specs.Maps.{touch_answer, touch_place}
-use Rattle.guard.specs.declared.Guarded.{Guarded}
-use Rattle.guard.specs.Guarded.{guarded}
+use Rattle.guard.specs.Guarded.{Guarded, guarded}
 use Rattle.guard.specs.Extract.{extract}
 
 -- what comes back: the answer, the steps that were made, the guarded address before which it was halted, and the two numbers
@@ -28,8 +27,8 @@ told registers cycles answer place k s = record {
 
 -- a run's own answer and no place; or 13 or 14, and the address
 abbrev pub guard_numbers : ℕ → ℕ → Guarded → GuardNumbers
-guard_numbers registers cycles (Guarded.Ran q) = told registers cycles (number q.reason) 0 q.steps q.machine
-guard_numbers registers cycles (Guarded.Halted h) = told registers cycles (touch_answer h.touch) (touch_place h.touch) h.steps h.machine
+guard_numbers registers cycles (Ok q) = told registers cycles (number q.reason) 0 q.steps q.machine
+guard_numbers registers cycles (Err h) = told registers cycles (touch_answer h.touch) (touch_place h.touch) h.steps h.machine
 
 abbrev pub on_numbers : ℕ → ℕ → Guarded × List ℕ → GuardNumbers × List ℕ
 on_numbers registers cycles w = (guard_numbers registers cycles w.0, w.1)

@@ -11,7 +11,7 @@ ghost use Rattle.mos6502_guard.specs.Stopping.{run_to_on_numbers};
 
 use guard::extract::extract;
 use guard::{Guarded, guarded_run};
-use guard_maps::MAP_SIZE;
+use guard_maps::{Guards, MAP_SIZE};
 use guard_stop::{run_to, stop_answer};
 use mos6502_numbers::{hand_back, lines_from, machine_from};
 
@@ -33,19 +33,17 @@ fn hand_over(
         ≡ guard_numbers registers.old cycles.old guarded }
 {
     match guarded {
-        Guarded::Ran(ended) => {
-            let reason = ended.reason;
+        Ok(ended) => {
             *steps = ended.steps;
             *place = 0;
             hand_back(0 < ended.steps, ended.machine, registers, cycles);
-            u8::from(reason)
+            u8::from(ended.reason)
         }
-        Guarded::Halted(halt) => {
-            let touch = halt.touch;
+        Err(halt) => {
             *steps = halt.steps;
-            *place = touch.place();
+            *place = halt.touch.place();
             hand_back(0 < halt.steps, halt.machine, registers, cycles);
-            touch.answer()
+            u8::from(halt.touch.refusal())
         }
     }
 }
@@ -86,8 +84,7 @@ pub extern "C" fn mos6502_guarded_run(
         machine_from(*registers, *cycles),
         bound,
         lines_from(lines),
-        reads,
-        stores,
+        Guards { reads, stores },
         memory,
     );
     hand_over(guarded, registers, cycles, steps, place)

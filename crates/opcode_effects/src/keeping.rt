@@ -1,7 +1,6 @@
 // A row that keeps the memory as it is, carried out.
 ghost use Rattle.std.specs.Prelude.{◌≡◌, false, ◌+◌, ◌≤◌};
 ghost use Rattle.instruction.specs.Theorems.Table.{most_extra};
-ghost use Rattle.opcode_numbers.specs.Inner.Operations.{operation_at, mode_at};
 ghost use Rattle.opcode_numbers.specs.Inner.Storing.{stores_in};
 ghost use Rattle.manual.specs.Micro.{Gives};
 ghost use Rattle.manual.specs.Instructions.{perform};
@@ -12,7 +11,6 @@ use addressing::{advanced, target_of};
 use instruction::{AddressingMode, Instruction, ReadOperation};
 use manual::{Effect, leaves};
 use memory::{Address, Memory, get_byte};
-use opcode_numbers::{mode_at, operation_at};
 use operations::{branch, internal, jump, modify_accumulator, read};
 use registers::{Registers, flag};
 use stack::{pull_accumulator, pull_status, return_from_interrupt, return_from_subroutine};
@@ -41,17 +39,20 @@ fn execute_keeping(
     }
 }
 
-// A row that keeps the memory as it is. Its operation and its mode come as numbers: where it is called they are fixed, so that
-// the compiler leaves the rest out; and a row that makes no enum is checked in a third of the time.
-pub fn keeps(operation: u8, mode: u8, cycles: u8, registers: Registers, memory: &Memory) -> Row
-    requires { (cycles + most_extra (operation_at operation) ≤ 7)
-        × (stores_in (operation_at operation) (mode_at mode) ≡ false) }
+// A row that keeps the memory as it is. Where it is called its operation and its mode are fixed, so that the compiler leaves the rest
+// out.
+pub fn keeps(
+    operation: Instruction,
+    mode: AddressingMode,
+    cycles: u8,
+    registers: Registers,
+    memory: &Memory,
+) -> Row
+    requires { (cycles + most_extra operation ≤ 7)
+        × (stores_in operation mode ≡ false) }
     ensures { Gives (performed (entry_of operation mode cycles) registers) memory.now (finished result) memory.now }
 {
-    counted(
-        cycles,
-        execute_keeping(operation_at(operation), mode_at(mode), registers, memory),
-    )
+    counted(cycles, execute_keeping(operation, mode, registers, memory))
 }
 
 // The byte that an operation reads, and the registers past it: a page cross is charged.
@@ -71,17 +72,17 @@ fn fetched(mode: AddressingMode, cycles: u8, registers: Registers, memory: &Memo
 }
 
 // A row of ADC.
-pub fn adds(mode: u8, cycles: u8, registers: Registers, memory: &Memory) -> Row
+pub fn adds(mode: AddressingMode, cycles: u8, registers: Registers, memory: &Memory) -> Row
     requires { cycles ≤ 6 }
-    ensures { Gives (performed (read_entry ReadOperation.ADC (mode_at mode) cycles) registers) memory.now (finished result) memory.now }
+    ensures { Gives (performed (read_entry ReadOperation.ADC mode cycles) registers) memory.now (finished result) memory.now }
 {
-    Row::Adding(fetched(mode_at(mode), cycles, registers, memory))
+    Row::Adding(fetched(mode, cycles, registers, memory))
 }
 
 // A row of SBC.
-pub fn subtracts(mode: u8, cycles: u8, registers: Registers, memory: &Memory) -> Row
+pub fn subtracts(mode: AddressingMode, cycles: u8, registers: Registers, memory: &Memory) -> Row
     requires { cycles ≤ 6 }
-    ensures { Gives (performed (read_entry ReadOperation.SBC (mode_at mode) cycles) registers) memory.now (finished result) memory.now }
+    ensures { Gives (performed (read_entry ReadOperation.SBC mode cycles) registers) memory.now (finished result) memory.now }
 {
-    Row::Subtracting(fetched(mode_at(mode), cycles, registers, memory))
+    Row::Subtracting(fetched(mode, cycles, registers, memory))
 }

@@ -1,7 +1,6 @@
 // A row that stores, carried out.
 ghost use Rattle.std.specs.Prelude.{◌≡◌, true, ◌+◌, ◌≤◌};
 ghost use Rattle.instruction.specs.Theorems.Table.{most_extra};
-ghost use Rattle.opcode_numbers.specs.Inner.Operations.{operation_at, mode_at};
 ghost use Rattle.opcode_numbers.specs.Inner.Storing.{stores_in};
 ghost use Rattle.manual.specs.Micro.{Gives};
 ghost use Rattle.manual.specs.Instructions.{perform};
@@ -11,7 +10,6 @@ use crate::{Row, counted};
 use instruction::{AddressingMode, Instruction};
 use manual::{Effect, leaves};
 use memory::Memory;
-use opcode_numbers::{mode_at, storing_at};
 use operations::{modify, store};
 use registers::Registers;
 use stack::{force_break, jump_to_subroutine, push_accumulator, push_status};
@@ -37,14 +35,17 @@ fn execute_storing(
     }
 }
 
-// The row. Its operation and its mode come as numbers, as in `keeps`.
-pub fn stores(operation: u8, mode: u8, cycles: u8, registers: Registers, memory: &mut Memory) -> Row
-    requires { (cycles + most_extra (operation_at operation) ≤ 7)
-        × (stores_in (operation_at operation) (mode_at mode) ≡ true) }
+// The row.
+pub fn stores(
+    operation: Instruction,
+    mode: AddressingMode,
+    cycles: u8,
+    registers: Registers,
+    memory: &mut Memory,
+) -> Row
+    requires { (cycles + most_extra operation ≤ 7)
+        × (stores_in operation mode ≡ true) }
     ensures { Gives (performed (entry_of operation mode cycles) registers) memory.old (finished result) memory.new }
 {
-    counted(
-        cycles,
-        execute_storing(storing_at(operation), mode_at(mode), registers, memory),
-    )
+    counted(cycles, execute_storing(operation, mode, registers, memory))
 }

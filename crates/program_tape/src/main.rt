@@ -15,20 +15,14 @@
 // What is written and what is said are promised by the crates tape_moving and tape_loading; the status is promised by console_tapes.
 #![tactic(auto)]
 
-use console::{hand_over, name_from, refuse};
-use console_tapes::move_argument;
+use console::hand_over;
+use console_tapes::move_by_arguments;
 use tape_loading::Format;
 
-fn tape_by_arguments(rt: HostRuntime) -> u8 {
-    let Some(index) = name_from(rt, 1) else {
-        return refuse(
-            rt,
-            b"tape: name one file of Intel HEX, or none for standard input; ./run tape --help\n",
-        );
-    };
-    move_argument(rt, index, Format::Hex)
-}
-
 fn main(rt: HostRuntime) {
-    hand_over(tape_by_arguments(rt));
+    hand_over(move_by_arguments(
+        rt,
+        Format::Hex,
+        b"tape: name one file of Intel HEX, or none for standard input; ./run tape --help\n",
+    ));
 }

@@ -1,6 +1,6 @@
 -- From tape to HEX and back, record for record: the text in the other format, unless the given one is bad or the buffer is too short.
-use Rattle.std.specs.Prelude.{ℕ, ◌-◌, cond, List, length, take, ◌==◌}
-use Rattle.laws.specs.Answers.{not_refused}
+use Rattle.std.specs.Prelude.{ℕ, ◌-◌, cond, List, length, take, ◌==◌, Result, Ok, Err}
+use Rattle.laws.specs.Answers.{not_refused, answer_of}
 use Rattle.text_writing.specs.Delivered.{Delivered, refused, delivered}
 use Rattle.tape_records.specs.Contents.{Contents}
 use Rattle.tape_paper.specs.Tapes.{tape_of}
@@ -9,6 +9,8 @@ use Rattle.tape_intel.specs.IntelHex.{hex_of}
 use Rattle.tape_intel.specs.Grammar.{hex_text}
 use Rattle.tape_loading.specs.declared.Format.{Format}
 use Rattle.tape_loading.specs.declared.Format.TheVariants.{Tape, Hex}
+use Rattle.tape_loading.specs.declared.Reach.{Reach}
+use Rattle.tape_loading.specs.declared.Fault.{Fault}
 use Rattle.tape_moving.specs.declared.Moved.{Moved}
 
 -- the answer, the length of the new text, how many good records stand before the first bad one of the given text and where that begins, its
@@ -20,10 +22,15 @@ pub record Outcome : Type 0 where
   pub place : ℕ
   pub buffer : List ℕ
 
--- what the code answers, and the buffer that it leaves
-abbrev pub with_text : Moved → List ℕ → Outcome
+-- the answer's number, the length of the new text, and how far the given one is good, of what the code answers
+abbrev pub numbers_of : Result Moved Fault → ℕ × ℕ × Reach
+numbers_of (Ok moved) = (not_refused, moved.size, moved.reach)
+numbers_of (Err fault) = (answer_of fault.reason, 0, fault.reach)
+
+-- the same with the buffer that it leaves
+abbrev pub with_text : Result Moved Fault → List ℕ → Outcome
 with_text m buffer =
-    record { answer = m.verdict.answer; size = m.size; good = m.verdict.good; place = m.verdict.place; buffer = buffer }
+    record { answer = (numbers_of m).0; size = (numbers_of m).1; good = (numbers_of m).2.good; place = (numbers_of m).2.place; buffer = buffer }
 
 -- the text s with the contents c, and what became of its buffer
 abbrev pub found_in : List ℕ → Contents → Delivered → Outcome

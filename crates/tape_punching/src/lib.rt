@@ -1,110 +1,95 @@
 // A stretch of memory punched as a paper tape.
 #![tactic(auto)]
 
-ghost use Rattle.std.specs.Prelude.{◌≡◌, ◌+◌, ◌-◌, ◌%◌, ◌<◌, ◌≤◌, min, ◌++◌, length};
-ghost use Rattle.std.proofs.Math.Seq.{slice};
-ghost use Rattle.text_writing.specs.Written.{Wrote};
+ghost use Rattle.std.specs.Prelude.{◌≡◌, ◌+◌, ◌%◌, ◌<◌, ◌≤◌, ◌++◌, IfOk, length};
+ghost use Rattle.text_writing.specs.Written.{Writes};
 ghost use Rattle.text_writing.specs.Delivered.{with_buffer};
 ghost use Rattle.tape_records.specs.Records.{total, hexes};
 ghost use Rattle.tape_records.specs.Grammar.{newline};
 ghost use Rattle.tape_paper.specs.Grammar.{record_text, tape_text};
 ghost use Rattle.tape_punching.specs.Punching.{cut, tape_into};
 
-use laws::answers::*;
+use laws::answers::Refusal;
 use manual::FULL_MEMORY;
 use tape_paper::put_end;
-use text_writing::{Delivery, put_byte, put_hex2, put_hex4, put_text};
+use tape_records::{Head, put_head};
+use text_writing::Writer;
 
-// How many bytes go into the next record.
-fn next_count(left: usize) -> usize
-    ensures { result ≡ min 24 left }
-{
-    if left < 24 { left } else { 24 }
-}
-
-// A sum with the bytes of a stretch, which goes round at 65,536.
-fn sum_bytes(memory: &[u8], start: usize, end: usize, sum: u16) -> u16
-    requires { (start ≤ end) × (end ≤ length memory.now) }
-    ensures { result ≡ (sum + total (slice start end memory.now)) % 65536 }
+// A sum with some bytes, which goes round at 65,536.
+fn sum_bytes(bytes: &[u8], sum: u16) -> u16
+    ensures { result ≡ (sum + total bytes.now) % 65536 }
 {
     let mut value = sum;
-    let mut address = start;
-    while address < end {
-        value = std::num::wrapping_add_u16(value, memory[address] as u16);
-        address += 1;
+    for &byte in bytes {
+        value = value.wrapping_add(byte as u16);
     }
     value
 }
 
-// The bytes of a stretch, two digits each.
-fn put_bytes(out: &mut [u8], at: usize, memory: &[u8], start: usize, end: usize) -> usize
-    requires { (start ≤ end) × (end ≤ length memory.now) }
-    ensures { Wrote out.old at (hexes (slice start end memory.now)) out.new result }
+// Some bytes, two digits each.
+fn put_bytes(out: &mut Writer, bytes: &[u8])
+    ensures { Writes out.old (hexes bytes.now) out.new }
 {
-    let mut next = at;
-    let mut address = start;
-    while address < end {
-        next = put_hex2(out, next, memory[address]);
-        address += 1;
+    for &byte in bytes {
+        out.put_hex2(byte);
     }
-    next
 }
 
-// The record of a stretch of up to 255 bytes, and CR LF.
-fn put_record(out: &mut [u8], at: usize, memory: &[u8], start: usize, end: usize) -> usize
-    requires { (start ≤ end) × (end ≤ length memory.now) × (start < 65536) × (end - start < 256) }
-    ensures { Wrote out.old at (record_text start (slice start end memory.now) ++ newline) out.new result }
+// The record of up to 255 bytes, and CR LF.
+fn put_record(out: &mut Writer, address: u16, bytes: &[u8])
+    requires { length bytes.now < 256 }
+    ensures { Writes out.old (record_text address bytes.now ++ newline) out.new }
 {
-    let count = (end - start) as u8;
-    let address = start as u16;
-    let head = (count as u16) + address / 256 + address % 256;
-    let sum = sum_bytes(memory, start, end, head);
-    let after_mark = put_byte(out, at, b';');
-    let after_count = put_hex2(out, after_mark, count);
-    let after_address = put_hex4(out, after_count, address);
-    let after_data = put_bytes(out, after_address, memory, start, end);
-    let after_sum = put_hex4(out, after_data, sum);
-    put_text(out, after_sum, b"\r\n")
+    let head = Head {
+        address,
+        count: bytes.len() as u8,
+    };
+    let sum = sum_bytes(bytes, head.sum());
+    put_head(out, b';', head);
+    put_bytes(out, bytes);
+    out.put_hex4(sum);
+    out.put_text(b"\r\n");
 }
 
-// The tape of a stretch, up to the address before `end`.
-fn put_tape(out: &mut [u8], at: usize, memory: &[u8], first: usize, end: usize) -> usize
-    requires { (first ≤ end) × (end ≤ 65536) × (end ≤ length memory.now) }
-    ensures { Wrote out.old at (tape_text 0 (cut first 0 (slice first end memory.now))) out.new result }
+// The tape of a stretch, which begins at an address.
+fn put_tape(out: &mut Writer, first: u16, stretch: &[u8])
+    requires { first + length stretch.now ≤ 65536 }
+    ensures { Writes out.old (tape_text 0 (cut first 0 stretch.now)) out.new }
 {
-    let mut next = at;
-    let mut address = first;
+    let mut rest = stretch;
+    let mut address = first as usize;
     let mut records: u16 = 0;
-    while address < end {
-        let after = address + next_count(end - address);
-        next = put_record(out, next, memory, address, after);
-        address = after;
+    while !rest.is_empty() {
+        let size = rest.len().min(24);
+        put_record(out, address as u16, &rest[..size]);
+        rest = &rest[size..];
+        address += size;
         records += 1;
     }
-    put_end(out, next, records)
+    put_end(out, records);
 }
 
 // Punches the memory from a first to a last address. The text is written twice, the first time to where nothing is kept, so
 // that a buffer that is too short is left as it was.
-pub fn punch(memory: &[u8], first: u16, last: u16, text: &mut [u8]) -> Delivery
+pub fn punch(memory: &[u8], first: u16, last: u16, text: &mut [u8]) -> Result<usize, Refusal>
     ensures text_after { with_buffer result text.new ≡ tape_into memory.now first last text.old }
-    ensures size_in_bounds { result.size ≤ length text.old }
+    ensures size_in_bounds { IfOk result (λ size. size ≤ length text.old) }
 {
     if memory.len() != FULL_MEMORY {
-        return Delivery::refused(MEMORY_NOT_FULL);
+        return Err(Refusal::MemoryNotFull);
     }
     if last < first {
-        return Delivery::refused(FIRST_ABOVE_LAST);
+        return Err(Refusal::FirstAboveLast);
     }
     let end = (last as usize) + 1;
+    let stretch = &memory[first as usize..end];
     let mut nowhere = [0u8; 0];
-    let size = put_tape(&mut nowhere, 0, memory, first as usize, end);
-    if text.len() < size {
-        return Delivery::refused(NO_ROOM);
+    let mut measure = Writer::new(&mut nowhere);
+    put_tape(&mut measure, first, stretch);
+    if text.len() < measure.place() {
+        return Err(Refusal::NoRoom);
     }
-    let written = put_tape(text, 0, memory, first as usize, end);
-    Delivery {
-        answer: NOT_REFUSED,
-        size: written,
-    }
+    let mut written = Writer::new(text);
+    put_tape(&mut written, first, stretch);
+    Ok(written.place())
 }

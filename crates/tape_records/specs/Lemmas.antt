@@ -8,3 +8,4 @@ pub mod Gaps
 pub mod Spelling
 pub mod Onto
 pub mod Laying
+pub mod Writing

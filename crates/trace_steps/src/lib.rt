@@ -1,97 +1,70 @@
 // The steps of a run with idle lines, and what is shown of each: the entries of a trace, or of a timetable.
 #![tactic(auto)]
 
-ghost use Rattle.std.specs.Prelude.{◌+◌, ◌*◌, ◌≤◌, ◌≡◌, length};
+ghost use Rattle.std.specs.Prelude.{◌+◌, ◌*◌, ◌≤◌, length};
 ghost use Rattle.manual.specs.Micro.{Gives};
 ghost use Rattle.manual.specs.Interrupts.{idle};
-ghost use Rattle.manual.specs.Stepping.{full_memory, step_full, long_run};
-ghost use Rattle.text_writing.specs.Written.{Wrote};
+ghost use Rattle.manual.specs.Stepping.{step_full, long_run};
+ghost use Rattle.text_writing.specs.Written.{Writes};
 ghost use Rattle.trace_text.specs.Entries.{longest};
 ghost use Rattle.trace_steps.specs.Traces.{shown, trace};
 
 use cpu::single_step;
 use listing::{LONGEST_INSTRUCTION, put_instruction};
 use manual::{Ended, FULL_MEMORY, Lines, Machine, Reason, Stepped};
+use memory::Memory;
+use text_writing::Writer;
 use trace_text::{View, put_entry};
 
-// What a step answers, and where its entry ends.
-#[derive(Clone, Copy)]
-struct ShownStep {
-    stepped: Stepped,
-    next: usize,
-}
-
-// How the run ended, and how long its entries are.
-#[derive(Clone, Copy)]
-pub struct Shown {
-    pub ended: Ended,
-    pub size: usize,
-}
-
 // A step, and its entry if it was made. The instruction is written down first, for the step may store over it.
-fn put_step(out: &mut [u8], at: usize, view: View, machine: Machine, memory: &mut [u8]) -> ShownStep
-    requires { length memory.old ≡ full_memory }
-    ensures gives { Gives (step_full idle machine) memory.old result.stepped memory.new }
-    ensures wrote { Wrote out.old at (shown view memory.old machine result.stepped) out.new result.next }
-    ensures next_bound { result.next ≤ at + longest view }
+fn put_step(out: &mut Writer, view: View, machine: Machine, memory: &mut Memory) -> Stepped
+    ensures gives { Gives (step_full idle machine) memory.old result memory.new }
+    ensures wrote { Writes out.old (shown view memory.old machine result) out.new }
+    ensures next_bound { out.new.at ≤ out.old.at + longest view }
 {
     let mut instruction = [0u8; LONGEST_INSTRUCTION];
-    let size = put_instruction(&mut instruction, 0, memory, machine.registers.counter);
+    let mut listed = Writer::new(&mut instruction);
+    put_instruction(&mut listed, memory, machine.registers.counter);
+    let size = listed.place();
     let stepped = single_step(machine, Lines::idle(), memory);
-    let reason = stepped.reason;
-    if reason.is_made() {
-        let cycles = stepped.machine.cycles - machine.cycles;
-        return ShownStep {
-            stepped: stepped,
-            next: put_entry(
-                out,
-                at,
-                view,
-                &instruction[..size],
-                cycles,
-                stepped.first,
-                stepped.machine,
-            ),
-        };
+    if !stepped.reason.is_made() {
+        return stepped;
     }
-    ShownStep {
-        stepped: stepped,
-        next: at,
-    }
+    let instruction = &instruction[..size];
+    let cycles = stepped.machine.cycles - machine.cycles;
+    put_entry(
+        out,
+        view,
+        instruction,
+        cycles,
+        stepped.first,
+        stepped.machine,
+    );
+    stepped
 }
 
 // At most `bound` steps from a machine, and what is shown of each. What does not fit is dropped.
-pub fn put_steps(out: &mut [u8], view: View, start: Machine, bound: u64, memory: &mut [u8]) -> Shown
-    ensures gives { Gives (long_run (length memory.old) bound idle start) memory.old result.ended memory.new }
-    ensures wrote { Wrote out.old 0 (trace view bound start memory.old) out.new result.size }
-    ensures size_bound { result.size ≤ longest view * bound }
+pub fn put_steps(
+    out: &mut Writer,
+    view: View,
+    start: Machine,
+    bound: u64,
+    memory: &mut [u8],
+) -> Ended
+    ensures gives { Gives (long_run (length memory.old) bound idle start) memory.old result memory.new }
+    ensures wrote { Writes out.old (trace view bound start memory.old) out.new }
+    ensures size_bound { out.new.at ≤ out.old.at + longest view * bound }
 {
-    if memory.len() != FULL_MEMORY {
-        return Shown {
-            ended: Ended::new(Reason::MemoryNotFull, 0, start),
-            size: 0,
-        };
-    }
+    let Some(memory) = memory.as_mut_array::<FULL_MEMORY>() else {
+        return Ended::new(Reason::MemoryNotFull, 0, start);
+    };
     let mut left = start;
-    let mut steps: u64 = 0;
-    let mut next: usize = 0;
-    while steps < bound {
-        let shown = put_step(out, next, view, left, memory);
-        let stepped = shown.stepped;
-        let reason = stepped.reason;
+    for steps in 0..bound {
+        let stepped = put_step(out, view, left, memory);
         left = stepped.machine;
-        next = shown.next;
-        if reason.is_made() {
-            steps += 1;
-        } else {
-            return Shown {
-                ended: Ended::new(reason, steps, left),
-                size: next,
-            };
+        if !stepped.reason.is_made() {
+            return Ended::new(stepped.reason, steps, left);
         }
     }
-    Shown {
-        ended: Ended::new(Reason::Made, steps, left),
-        size: next,
-    }
+    Ended::new(Reason::Made, bound, left)
 }

@@ -1,5 +1,5 @@
 -- A guarded run on a full memory, for any guards: what it has to do with the run, and with another memory.
-use Rattle.std.specs.Prelude.{◌≡◌, ℕ, zero, suc, ◌+◌, ◌<◌, Bool, true, false, cond, List, [], ◌∷◌, ◌++◌, length, slice_index, slice_set, Option, Some, None}
+use Rattle.std.specs.Prelude.{◌≡◌, ℕ, zero, suc, ◌+◌, ◌<◌, Bool, true, false, cond, List, [], ◌∷◌, ◌++◌, length, slice_index, slice_set, Option, Some, None, Ok, Err}
 use Rattle.std.proofs.Math.Path.{refl, ap}
 use Rattle.std.proofs.Common.{sym, ◌∙◌, subst, inl, inr, true≢false, arith}
 use Rattle.std.proofs.Math.Logic.{⊎_elim}
@@ -21,8 +21,7 @@ use Rattle.manual.proofs.Theorems.Sealed.{Differ, Unsealed, agree_set, stores_al
 use Rattle.manual.proofs.Lemmas.StepLaws.{was_made, was_refused, run_more, run_stop, run_end}
 use Rattle.guard_maps.specs.declared.Touch.{Touch}
 use Rattle.guard_maps.specs.Maps.{first_in, touching, ahead_of}
-use Rattle.guard.specs.declared.Guarded.{Guarded}
-use Rattle.guard.specs.Guarded.{ran, halted, unless, guarded_full}
+use Rattle.guard.specs.Guarded.{Guarded, ran, halted, unless, guarded_full}
 
 -- the addresses that a guard marks
 abbrev pub Under : (ℕ → Bool) → ℕ → Type 0
@@ -103,8 +102,8 @@ module _ (guards against : ℕ → Bool) (lines : Lines) where
     pub ahead : ahead_of guards against lines q e ≡ Some t
 
   abbrev pub Right : ℕ → ℕ → Machine → List ℕ → Guarded × List ℕ → Type 0
-  Right n k s m (Guarded.Ran q, e) = Gives (run_full n k lines s) m q e × Clean n k s m
-  Right n k s m (Guarded.Halted h, e) = Halts n k s m h.touch h.steps h.machine e
+  Right n k s m (Ok q, e) = Gives (run_full n k lines s) m q e × Clean n k s m
+  Right n k s m (Err h, e) = Halts n k s m h.touch h.steps h.machine e
 
   -- the machine and the memory after a step
   abbrev after : Machine → List ℕ → Machine
@@ -165,8 +164,8 @@ module _ (guards against : ℕ → Bool) (lines : Lines) where
     more i made = run_more lines s m _ _ refl i k (was_made (reason_of s m) made)
 
     after_step : is_made (reason_of s m) ≡ true → (w : Guarded × List ℕ) → Right n (k + 1) (after s m) (left s m) w → Right (suc n) k s m w
-    after_step made (Guarded.Ran q, e) h = (more n made ∙ h.0, longer n k s m p made h.1)
-    after_step made (Guarded.Halted x, e) h = record {
+    after_step made (Ok q, e) h = (more n made ∙ h.0, longer n k s m p made h.1)
+    after_step made (Err x, e) h = record {
       steps = suc h.steps;
       fewer = omega (arith, h.fewer);
       count = omega (arith, h.count);

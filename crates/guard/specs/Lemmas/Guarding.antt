@@ -1,5 +1,5 @@
 -- Laws that the code's proofs cite.
-use Rattle.std.specs.Prelude.{◌≡◌, ℕ, zero, suc, ◌+◌, ◌-◌, ◌<◌, ◌≤◌, Bool, true, false, cond, not, ◌&&◌, List, ◌≢◌, Some, None, Option}
+use Rattle.std.specs.Prelude.{◌≡◌, ℕ, zero, suc, ◌+◌, ◌-◌, ◌<◌, ◌≤◌, Bool, true, false, cond, not, ◌&&◌, List, ◌≢◌, Some, None, Option, Ok, Err}
 use Rattle.std.proofs.Math.Path.{refl}
 use Rattle.std.proofs.Common.{ap, ap₂, sym, ◌∙◌, subst, true≢false, inl, inr, eq-eqb, ne_eqb}
 use native.Mathlib.Omega.{arith}
@@ -15,13 +15,12 @@ use Rattle.manual.specs.Stepping.{full_memory, highest_count, step_full}
 use Rattle.manual.proofs.Theorems.Answers.{Way, late, serves, undefined, ready, way, not_quiet}
 use Rattle.manual.proofs.Lemmas.StepLaws.{due_none, step_late, step_undefined, step_defined}
 use Rattle.footprint.specs.Lemmas.Footprints.{late_list, due_list, due_stores}
-use Rattle.cpu.specs.Inner.Turning.{raised, stretch, Calm, going}
+use Rattle.cpu.specs.Inner.Turning.{raised, stretch, Calm, reach, fitting, going}
 use Rattle.cpu.specs.Lemmas.Turning.{going_fits, going_most, some}
 use Rattle.guard_maps.specs.declared.Touch.{Touch}
 use Rattle.guard_maps.specs.Maps.{first_in, touching, ahead_of}
-use Rattle.guard.specs.declared.Guarded.{Guarded}
 use Rattle.guard.specs.declared.Halt.{Halt}
-use Rattle.guard.specs.Guarded.{ran, halted, unless, guarded_full, guarded}
+use Rattle.guard.specs.Guarded.{Guarded, ran, halted, unless, guarded_full, guarded}
 use Rattle.guard_near.specs.Inner.Near.{Untouched}
 
 -- ---- what is ahead
@@ -118,8 +117,8 @@ module _ (lines : Lines) (s : Machine) (m : List ℕ) (none : due lines s ≡ No
 module _ (reads stores : ℕ → Bool) (lines : Lines) where
   -- what n more steps give after a result
   abbrev pub onward : ℕ → Guarded × List ℕ → Guarded × List ℕ
-  onward n (Guarded.Ran q, m) = cond (is_made q.reason) (guarded_full reads stores n q.steps lines q.machine m) (Guarded.Ran q, m)
-  onward n (Guarded.Halted h, m) = (Guarded.Halted h, m)
+  onward n (Ok q, m) = cond (is_made q.reason) (guarded_full reads stores n q.steps lines q.machine m) (Ok q, m)
+  onward n (Err h, m) = (Err h, m)
 
   -- what a step gives and k steps after it, by what is ahead and its answer
   abbrev then : ℕ → ℕ → Machine → List ℕ → Stepped → List ℕ → Option Touch → Bool → Guarded × List ℕ
@@ -142,8 +141,8 @@ module _ (reads stores : ℕ → Bool) (lines : Lines) where
 
   -- if all of some steps were made, they were so many
   abbrev pub Counted : ℕ → Guarded × List ℕ → Type 0
-  Counted k (Guarded.Ran q, m) = is_made q.reason ≡ true → q.steps ≡ k
-  Counted k (Guarded.Halted h, m) = Unit {0}
+  Counted k (Ok q, m) = is_made q.reason ≡ true → q.steps ≡ k
+  Counted k (Err h, m) = Unit {0}
 
   then_counted : (j k i : ℕ) (s : Machine) (m : List ℕ) (q : Stepped) (e : List ℕ) (x : Option Touch) (t : Bool) → is_made q.reason ≡ t
       → Counted i (guarded_full reads stores j (k + 1) lines q.machine e)
@@ -172,13 +171,13 @@ module _ (reads stores : ℕ → Bool) (bound k j : ℕ) (lines : Lines) (s : Ma
         ap (λ (i : ℕ). guarded_full reads stores i k lines s m) e ∙ guarded_onward reads stores lines j (bound - k - j) k s m ∙ ap (onward reads stores lines (bound - k - j)) (sym g)
 
   -- if they were halted or stopped, so is the run
-  pub part_halts : (h : Halt) (e : List ℕ) → (Guarded.Halted h, e) ≡ guarded_full reads stores j k lines s m
-      → guarded_full reads stores (bound - k) k lines s m ≡ (Guarded.Halted h, e)
-  part_halts h e g = part_onward (Guarded.Halted h, e) g
+  pub part_halts : (h : Halt) (e : List ℕ) → (Err h, e) ≡ guarded_full reads stores j k lines s m
+      → guarded_full reads stores (bound - k) k lines s m ≡ (Err h, e)
+  part_halts h e g = part_onward (Err h, e) g
 
-  module _ (q : Ended) (e : List ℕ) (g : (Guarded.Ran q, e) ≡ guarded_full reads stores j k lines s m) where
-    pub part_stops : is_made q.reason ≡ false → guarded_full reads stores (bound - k) k lines s m ≡ (Guarded.Ran q, e)
-    part_stops f = part_onward (Guarded.Ran q, e) g ∙ rw f
+  module _ (q : Ended) (e : List ℕ) (g : (Ok q, e) ≡ guarded_full reads stores j k lines s m) where
+    pub part_stops : is_made q.reason ≡ false → guarded_full reads stores (bound - k) k lines s m ≡ (Ok q, e)
+    part_stops f = part_onward (Ok q, e) g ∙ rw f
 
     -- if they were not, all are made, and the run goes on from the machine that they left
     pub part_made : is_made q.reason ≡ true → q.steps ≡ k + j
@@ -192,7 +191,7 @@ module _ (reads stores : ℕ → Bool) (bound k j : ℕ) (lines : Lines) (s : Ma
         let rest : bound - k - j ≡ bound - q.steps = omega (arith, made, few.1) in (
           omega (arith, made, few.0),
           omega (arith, made, few.1),
-          part_onward (Guarded.Ran q, e) g ∙ rw f (ap (λ (i : ℕ). guarded_full reads stores i q.steps lines q.machine e) rest),
+          part_onward (Ok q, e) g ∙ rw f (ap (λ (i : ℕ). guarded_full reads stores i q.steps lines q.machine e) rest),
         )
 
 -- A turn makes some of the steps that are left.
@@ -202,6 +201,28 @@ pub turn_some : (bound k : ℕ) (lines : Lines) (s : Machine) → k < bound
 turn_some bound k lines s l =
     let one : 0 < bound - k = omega arith in
     some lines s (bound - k) (going lines s.cycles (bound - k)) (going_fits lines s.cycles (bound - k) one).0 (going_most lines s.cycles (bound - k) one) (due lines s)
+
+-- So the run goes on from what a turn leaves, or that is its end. `far` is how far the turn goes.
+module _ (reads stores : ℕ → Bool) (bound k : ℕ) (lines : Lines) (s : Machine) (m : List ℕ) (before : k < bound) {room far : ℕ} {w : Guarded} {e : List ℕ}
+    (fits : room ≡ fitting (bound - k) s.cycles) (reaches : far ≡ reach lines.irq room)
+    (gives : (w, e) ≡ guarded_full reads stores (stretch (due lines s) (k + far - k)) k lines s m) where
+  span : k + far - k ≡ going lines s.cycles (bound - k)
+  span = let back : k + far - k ≡ far = omega arith in back ∙ reaches ∙ ap (reach lines.irq) fits
+
+  turned : {v : Guarded} → w ≡ v → (v, e) ≡ guarded_full reads stores (stretch (due lines s) (going lines s.cycles (bound - k))) k lines s m
+  turned is = ap (λ (v : Guarded). (v, e)) (sym is) ∙ gives ∙ ap (λ (i : ℕ). guarded_full reads stores (stretch (due lines s) i) k lines s m) span
+
+  pub turn_halts : (h : Halt) → w ≡ Err h → guarded_full reads stores (bound - k) k lines s m ≡ (Err h, e)
+  turn_halts h is = part_halts reads stores bound k _ lines s m (turn_some bound k lines s before) h e (turned is)
+
+  module _ (q : Ended) (is : w ≡ Ok q) where
+    pub turn_stops : is_made q.reason ≡ false → guarded_full reads stores (bound - k) k lines s m ≡ (Ok q, e)
+    turn_stops f = part_stops reads stores bound k _ lines s m (turn_some bound k lines s before) q e (turned is) f
+
+    pub turn_goes : is_made q.reason ≡ true
+        → (k < q.steps) × (q.steps ≤ bound)
+        × (guarded_full reads stores (bound - k) k lines s m ≡ guarded_full reads stores (bound - q.steps) q.steps lines q.machine e)
+    turn_goes f = part_goes reads stores bound k _ lines s m (turn_some bound k lines s before) q e (turned is) f
 
 -- ---- the test before the first step
 

@@ -1,5 +1,5 @@
 -- What the promise of `extract` is worth: the memory that it leaves may be handed out whole. `sealed` is any test of addresses.
-use Rattle.std.specs.Prelude.{◌≡◌, ℕ, Bool, true, false, cond, List, length, slice_index, refl}
+use Rattle.std.specs.Prelude.{◌≡◌, ℕ, Bool, true, false, cond, List, length, slice_index, refl, Ok}
 use Rattle.std.proofs.Common.{ap, sym, ◌∙◌, true≢false, ext_get_or}
 use Rattle.manual.specs.declared.Lines.{Lines}
 use Rattle.manual.specs.declared.Machine.{Machine}
@@ -11,8 +11,7 @@ use Rattle.manual.specs.Lemmas.Programs.{◌∈◌, exec_length}
 use Rattle.manual.proofs.Theorems.Sealed.{Differ, Unsealed, long_run_sealed}
 use Rattle.guard_maps.specs.declared.Touch.{Touch}
 use Rattle.guard_maps.specs.Maps.{nowhere}
-use Rattle.guard.specs.declared.Guarded.{Guarded}
-use Rattle.guard.specs.Guarded.{halted, guarded_full, guarded}
+use Rattle.guard.specs.Guarded.{Guarded, halted, guarded_full, guarded}
 use Rattle.guard.specs.Extract.{blanked, extract}
 use Rattle.guard.specs.Lemmas.AnyGuard.{Under}
 use Rattle.guard.specs.Lemmas.Guarding.{guarded_whole}
@@ -80,7 +79,7 @@ module _ (sealed : ℕ → Bool) where
 
       -- If it answers as a run, it is the answer of the run of the memory itself, which reads no sealed byte; and the memory that it leaves is what
       -- that run leaves, but for zeros where a sealed byte was not stored to.
-      pub extract_right : {q : Ended} {x : List ℕ} → (Guarded.Ran q, x) ≡ extract sealed (length m) bound lines s m
+      pub extract_right : {q : Ended} {x : List ℕ} → (Ok q, x) ≡ extract sealed (length m) bound lines s m
           → {p : Ended} {e : List ℕ} → Gives (long_run (length m) bound lines s) m p e
           → (q ≡ p) × Unsealed (Under sealed) (listed_long_run (length m) bound lines s m) × Extracted (stores (long_run (length m) bound lines s) m) x e
       extract_right {q} {x} g {p} {e} r =

@@ -1,6 +1,6 @@
 -- What the promise of `guarded_run` is worth. `guards` and `against` are any tests of addresses, the maps of the two kinds among them: what is
 -- guarded against reads, and what is guarded against stores.
-use Rattle.std.specs.Prelude.{◌≡◌, ℕ, ◌<◌, Bool, true, false, cond, List, length, ◌==◌, nat_eq, Some}
+use Rattle.std.specs.Prelude.{◌≡◌, ℕ, ◌<◌, Bool, true, false, cond, List, length, ◌==◌, nat_eq, Some, Ok, Err}
 use Rattle.std.proofs.Math.Path.{refl, sym, subst}
 use Rattle.std.proofs.Common.{ap, ◌∙◌, arith, eqb-true, eq-eqb}
 use Rattle.manual.specs.declared.Lines.{Lines}
@@ -18,8 +18,7 @@ use Rattle.manual.proofs.Theorems.Stores.{step_full_stores}
 use Rattle.manual.proofs.Theorems.Sealed.{Differ, Unsealed, Kept, long_run_sealed}
 use Rattle.guard_maps.specs.declared.Touch.{Touch}
 use Rattle.guard_maps.specs.Maps.{ahead_of}
-use Rattle.guard.specs.declared.Guarded.{Guarded}
-use Rattle.guard.specs.Guarded.{ran, halted, guarded_full, guarded}
+use Rattle.guard.specs.Guarded.{Guarded, ran, halted, guarded_full, guarded}
 use Rattle.guard.specs.Lemmas.AnyGuard.{Under, Clean, Halts, Right, right, Same, same_guarded, would_touch}
 
 -- ---- beside the run
@@ -45,8 +44,8 @@ module _ (guards against : ℕ → Bool) (size bound : ℕ) (lines : Lines) (s :
     pub would : Would touch t e
 
   abbrev Meant : Guarded × List ℕ → Type 0
-  Meant (Guarded.Ran q, e) = Gives (long_run size bound lines s) m q e × Untouching bound
-  Meant (Guarded.Halted h, e) = Stopped h.touch h.steps h.machine e
+  Meant (Ok q, e) = Gives (long_run size bound lines s) m q e × Untouching bound
+  Meant (Err h, e) = Stopped h.touch h.steps h.machine e
 
   module _ (f : size ≡ full_memory) where
     same_run : (j : ℕ) → long_run size j lines s ≡ run_full j 0 lines s
@@ -79,8 +78,8 @@ module _ (guards against : ℕ → Bool) (size bound : ℕ) (lines : Lines) (s :
         }
 
     lifted : (w : Guarded × List ℕ) → Right guards against lines bound 0 s m w → Meant w
-    lifted (Guarded.Ran q, e) r = (rw (same_run bound) r.0, untouching bound r.1)
-    lifted (Guarded.Halted h, e) r = stopped h.touch h.steps h.machine e r
+    lifted (Ok q, e) r = (rw (same_run bound) r.0, untouching bound r.1)
+    lifted (Err h, e) r = stopped h.touch h.steps h.machine e r
 
   short : nat_eq size full_memory ≡ false → Meant (ran MemoryNotFull 0 s, m)
   unfolding long_run accesses
@@ -96,7 +95,7 @@ module _ (guards against : ℕ → Bool) (size bound : ℕ) (lines : Lines) (s :
 
   -- If the guarded run answers as a run, it is the run: the same reason, steps, registers, cycles and memory; and that run reads no byte that is
   -- guarded against reads, and stores to none that is guarded against stores.
-  pub ran_right : (q : Ended) (e : List ℕ) → guarded guards against size bound lines s m ≡ (Guarded.Ran q, e)
+  pub ran_right : (q : Ended) (e : List ℕ) → guarded guards against size bound lines s m ≡ (Ok q, e)
       → Gives (long_run size bound lines s) m q e × Untouching bound
   ran_right q e h = subst Meant h meant
 
@@ -138,7 +137,7 @@ module _ (guards against : ℕ → Bool) (bound : ℕ) (lines : Lines) (s : Mach
   -- The oath. If the guarded run answered as a run, the run without guards gives that same answer on every memory that differs only in bytes that
   -- are guarded against reads, and the same bytes elsewhere; such a byte that was stored to is the same too, and any other is what it was.
   pub oath : (q₁ q₂ : Ended)
-      → (Guarded.Ran q₁, e₁) ≡ guarded guards against (length m₁) bound lines s m₁
+      → (Ok q₁, e₁) ≡ guarded guards against (length m₁) bound lines s m₁
       → Gives (long_run (length m₂) bound lines s) m₂ q₂ e₂
       → (q₁ ≡ q₂) × Kept (Under guards) (stores (long_run (length m₁) bound lines s) m₁) m₁ m₂ e₁ e₂
   oath q₁ q₂ w g =

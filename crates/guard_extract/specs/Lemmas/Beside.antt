@@ -1,5 +1,5 @@
 -- The extract of an image beside the run of the image itself: what the theorems of Oath.antt stand on.
-use Rattle.std.specs.Prelude.{ℕ, ◌≡◌, refl, Bool, true, false, cond, eqb}
+use Rattle.std.specs.Prelude.{ℕ, ◌≡◌, refl, Bool, true, false, cond, eqb, Ok, Err}
 use Rattle.std.proofs.Math.Path.{ap}
 use Rattle.std.proofs.Common.{sym, ◌∙◌, subst, true≢false, ⊎_elim, arith, eq-eqb}
 use mathlib.Core.List.{List, ◌∷◌}
@@ -23,9 +23,8 @@ use Rattle.image_run.specs.Report.{from_start, long_image_run, image_start}
 use Rattle.image_run.specs.Lemmas.Report.{started}
 use Rattle.guard_maps.specs.declared.Touch.{Touch}
 use Rattle.guard_maps.specs.Maps.{touch_answer, nowhere}
-use Rattle.guard.specs.declared.Guarded.{Guarded}
 use Rattle.guard.specs.declared.Halt.{Halt}
-use Rattle.guard.specs.Guarded.{guarded}
+use Rattle.guard.specs.Guarded.{Guarded, guarded}
 use Rattle.guard.specs.Extract.{blanked, extract}
 use Rattle.guard.specs.Lemmas.AnyGuard.{Under}
 use Rattle.guard.specs.Lemmas.Blanking.{blanked_length, blanked_at}
@@ -58,9 +57,9 @@ halt_not_0 (Touch.Read a) e = omega arith
 halt_not_0 (Touch.Store a) e = omega arith
 
 -- 0: it was not halted, and ended as it was meant to
-pub status_0 : (goal : Goal) (w : Guarded) → sealed_status goal w ≡ 0 → (q : Ended) × (w ≡ Guarded.Ran q) × (reached goal q ≡ true)
-status_0 goal (Guarded.Ran q) h = (q, refl, only_where_reached goal q h)
-status_0 goal (Guarded.Halted x) h = absurd (halt_not_0 x.touch h)
+pub status_0 : (goal : Goal) (w : Guarded) → sealed_status goal w ≡ 0 → (q : Ended) × (w ≡ Ok q) × (reached goal q ≡ true)
+status_0 goal (Ok q) h = (q, refl, only_where_reached goal q h)
+status_0 goal (Err x) h = absurd (halt_not_0 x.touch h)
 
 no_end_13 : (t u : Bool) (r : Reason) → cond t 0 (cond u 20 (number r)) ≡ would_read → ⊥
 no_end_13 true u r h = omega arith
@@ -76,10 +75,10 @@ only_read (Touch.Read a) e = (a, refl)
 only_read (Touch.Store a) e = absurd (omega arith)
 
 -- 13: it was halted before it would have read a byte
-pub status_13 : (goal : Goal) (w : Guarded) → sealed_status goal w ≡ would_read → (h : Halt) × (a : ℕ) × (w ≡ Guarded.Halted h) × (h.touch ≡ Touch.Read a)
+pub status_13 : (goal : Goal) (w : Guarded) → sealed_status goal w ≡ would_read → (h : Halt) × (a : ℕ) × (w ≡ Err h) × (h.touch ≡ Touch.Read a)
 unfolding end_status
-status_13 goal (Guarded.Ran q) h = absurd (no_end_13 (reached goal q) (eqb (number q.reason) not_refused) q.reason h)
-status_13 goal (Guarded.Halted x) h = let (a, e) = only_read x.touch h in (x, a, refl, e)
+status_13 goal (Ok q) h = absurd (no_end_13 (reached goal q) (eqb (number q.reason) not_refused) q.reason h)
+status_13 goal (Err x) h = let (a, e) = only_read x.touch h in (x, a, refl, e)
 
 -- ---- the image
 
@@ -113,18 +112,18 @@ module _ (sealed : ℕ → Bool) (steps : ℕ) where
     -- with status 0
     pub ended_well : (goal : Goal) {w : Guarded} {x : List ℕ} → (w, x) ≡ image_extract sealed steps m → sealed_status goal w ≡ 0
         → {q : Ended} {e : List ℕ} → Gives (long_image_run steps (length m)) m q e
-        → (w ≡ Guarded.Ran q) × (reached goal q ≡ true) × Unsealed (Under sealed) (reads (long_image_run steps (length m)) m)
+        → (w ≡ Ok q) × (reached goal q ≡ true) × Unsealed (Under sealed) (reads (long_image_run steps (length m)) m)
         × Extracted sealed (stores (long_image_run steps (length m)) m) x e
     ended_well goal {w} {x} g zero {q} {e} ran =
         let (p, is, good) = status_0 goal w zero in
         let so = extract_right sealed steps idle (image_start m) m full (subst (λ (v : Guarded). (v, x) ≡ image_extract sealed steps m) is g ∙ as_extract) (sym (from_start_lem steps m) ∙ ran) in (
-          is ∙ ap Guarded.Ran so.0,
+          is ∙ ap Ok so.0,
           subst (λ (q : Ended). reached goal q ≡ true) so.0 good,
           unread_from steps so.1,
           rw (stores_from_start steps m full) so.2,
         )
 
     -- if it was halted, so is the guarded run of the image, and at the same place
-    pub halted_there : (h : Halt) {x : List ℕ} → (Guarded.Halted h, x) ≡ image_extract sealed steps m
+    pub halted_there : (h : Halt) {x : List ℕ} → (Err h, x) ≡ image_extract sealed steps m
         → Stopped sealed nowhere (length m) steps idle (image_start m) m h.touch h.steps h.machine (guarded sealed nowhere (length m) steps idle (image_start m) m).1
     halted_there h g = extract_halted sealed steps idle (image_start m) m full h.touch h.steps h.machine (g ∙ as_extract)

@@ -13,9 +13,8 @@ use Rattle.trace_fields.specs.Fields.{machine_fields}
 use Rattle.image_run.specs.Report.{image_start}
 use Rattle.guard_maps.specs.declared.Touch.{Touch}
 use Rattle.guard_maps.specs.Maps.{touch_answer, nowhere}
-use Rattle.guard.specs.declared.Guarded.{Guarded}
 use Rattle.guard.specs.declared.Halt.{Halt}
-use Rattle.guard.specs.Guarded.{ran, guarded_full}
+use Rattle.guard.specs.Guarded.{Guarded, ran, guarded_full}
 use Rattle.guard.specs.Extract.{blanked}
 use Rattle.guard.specs.Lemmas.Blanking.{blanked_length, extract_refused, extract_whole}
 use Rattle.guard_extract.specs.Extract.{image_extract}

@@ -2,7 +2,7 @@
 -- with the answer w and the memory x, which the program writes to AFTER if its status is 0. The run of an image is the one that `go` makes
 -- of it (`long_image_run`): it reads its start at FFFC and FFFD, and makes at most so many steps with idle lines. `sealed` is any set of addresses,
 -- as the stretches of a word are; the word names them in the sentence.
-use Rattle.std.specs.Prelude.{ℕ, ◌<◌, ◌≡◌, Bool, true, false, List, length}
+use Rattle.std.specs.Prelude.{ℕ, ◌<◌, ◌≡◌, Bool, true, false, List, length, Ok, Err}
 use Rattle.std.proofs.Common.{ap, sym, ◌∙◌, subst}
 use Rattle.laws.specs.Answers.{would_read}
 use Rattle.manual.specs.declared.Ended.{Ended}
@@ -18,8 +18,7 @@ use Rattle.statuses.specs.Statuses.{reached}
 use Rattle.image_run.specs.Report.{long_image_run, image_start}
 use Rattle.guard_maps.specs.declared.Touch.{Touch}
 use Rattle.guard_maps.specs.Maps.{nowhere}
-use Rattle.guard.specs.declared.Guarded.{Guarded}
-use Rattle.guard.specs.Guarded.{guarded}
+use Rattle.guard.specs.Guarded.{Guarded, guarded}
 use Rattle.guard.specs.declared.Halt.{Halt}
 use Rattle.guard.specs.Lemmas.AnyGuard.{Under}
 use Rattle.guard.specs.Theorems.Guarding.{Would}
@@ -57,7 +56,7 @@ module _ (seals : ℕ → Bool) (word : List ℕ) (goal : Goal) (steps : ℕ) wh
     -- Status 0, beside the run of the image, with its answer q and the memory e that it leaves.
     module _ (zero : sealed_status goal w ≡ 0) {q : Ended} {e : List ℕ} (ran : Gives (long_image_run steps (length m)) m q e) where
       -- 1. No sealed byte was read, and the run ended as it was meant to.
-      pub nothing_read : Unsealed Sealed (reads (long_image_run steps (length m)) m) × (w ≡ Guarded.Ran q) × (reached goal q ≡ true)
+      pub nothing_read : Unsealed Sealed (reads (long_image_run steps (length m)) m) × (w ≡ Ok q) × (reached goal q ≡ true)
       nothing_read = let so = ended_well seals steps m full lo hi goal extracted zero ran in (so.2, so.0, so.1)
 
       -- 2. Had other bytes stood there, the run would have given the same answer, steps, registers and cycles, and the same bytes everywhere
@@ -73,7 +72,7 @@ module _ (seals : ℕ → Bool) (word : List ℕ) (goal : Goal) (steps : ℕ) wh
       after_run = (ended_well seals steps m full lo hi goal extracted zero ran).3
 
     -- 4. Status 13: the run read no sealed byte in the steps that it made, and the next step would read the one that is named.
-    pub would_read_lem : sealed_status goal w ≡ would_read → (h : Halt) × (a : ℕ) × (w ≡ Guarded.Halted h) × (h.touch ≡ Touch.Read a) × WouldRead m h a
+    pub would_read_lem : sealed_status goal w ≡ would_read → (h : Halt) × (a : ℕ) × (w ≡ Err h) × (h.touch ≡ Touch.Read a) × WouldRead m h a
     would_read_lem z =
         let (h, a, is, touch) = status_13 goal w z in
         let so = halted_there seals steps m full lo hi h (subst (λ (v : Guarded). (v, x) ≡ image_extract seals steps m) is extracted) in

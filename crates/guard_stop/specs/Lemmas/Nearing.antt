@@ -2,7 +2,7 @@
 use Prim.Native.Nat.{ℕ, zero, suc, ◌+◌, ◌-◌, ◌≤◌, ◌<◌}
 use Rattle.std.proofs.Math.Path.{◌≡◌, refl, ap}
 use Rattle.std.proofs.Common.{ap₂, sym, ◌∙◌, subst, true≢false, inl, ⊎_elim, eq-eqb, ne_eqb}
-use Rattle.std.specs.Prelude.{Bool, true, false, not, cond, List, [], ◌∷◌, ◌⊎◌, eqb, None, Option, Some}
+use Rattle.std.specs.Prelude.{Bool, true, false, not, cond, List, [], ◌∷◌, ◌⊎◌, eqb, None, Option, Some, Ok, Err}
 use Rattle.std.proofs.Math.Logic.{inr}
 use Rattle.std.proofs.Math.Decide.{dec_lt}
 use native.Mathlib.Omega.{arith}
@@ -26,9 +26,8 @@ use Rattle.manual.proofs.Theorems.Serving.{recorded, high_and_low}
 use Rattle.footprint.specs.Lemmas.Footprints.{due_list}
 use Rattle.guard_maps.specs.declared.Touch.{Touch}
 use Rattle.guard_maps.specs.Maps.{first_in, touching, ahead_of, nowhere}
-use Rattle.guard.specs.declared.Guarded.{Guarded}
 use Rattle.guard.specs.declared.Halt.{Halt}
-use Rattle.guard.specs.Guarded.{ran, halted, unless, guarded_full}
+use Rattle.guard.specs.Guarded.{Guarded, ran, halted, unless, guarded_full}
 use Rattle.guard.specs.Lemmas.AnyGuard.{Right, right, nothing_ahead}
 use Rattle.guard.specs.Lemmas.Guarding.{guarded_halts, guarded_goes_on, guarded_stops, guarded_late, guarded_end, Counted, guarded_counted}
 use Rattle.guard_stop.specs.Stop.{elsewhere, run_to}
@@ -56,12 +55,12 @@ module _ (reads stores : ℕ → Bool) (lines : Lines) where
   Comes j k s m i t e = (k ≤ i) × (i ≤ k + j) × ((k < i) ⊎ ((t ≡ s) × (e ≡ m)))
 
   abbrev pub Where : ℕ → ℕ → Machine → List ℕ → Guarded × List ℕ → Type 0
-  Where j k s m (Guarded.Ran q, e) = Comes j k s m q.steps q.machine e
-  Where j k s m (Guarded.Halted h, e) = Comes j k s m h.steps h.machine e
+  Where j k s m (Ok q, e) = Comes j k s m q.steps q.machine e
+  Where j k s m (Err h, e) = Comes j k s m h.steps h.machine e
 
   later : (j k : ℕ) (s s' : Machine) (m m' : List ℕ) (w : Guarded × List ℕ) → Where j (k + 1) s' m' w → Where (suc j) k s m w
-  later j k s s' m m' (Guarded.Ran q, e) h = (omega (arith, h.0), omega (arith, h.1), inl (omega (arith, h.0)))
-  later j k s s' m m' (Guarded.Halted x, e) h = (omega (arith, h.0), omega (arith, h.1), inl (omega (arith, h.0)))
+  later j k s s' m m' (Ok q, e) h = (omega (arith, h.0), omega (arith, h.1), inl (omega (arith, h.0)))
+  later j k s s' m m' (Err x, e) h = (omega (arith, h.0), omega (arith, h.1), inl (omega (arith, h.0)))
 
   by_step : (j k : ℕ) (s : Machine) (m : List ℕ) (x : Option Touch) (t : Bool) → is_made (exec (step_full lines s) m).0.reason ≡ t
       → let w = exec (step_full lines s) m in
@@ -77,6 +76,11 @@ module _ (reads stores : ℕ → Bool) (lines : Lines) where
   unfolding guarded_full
   comes zero k s m = (omega arith, omega arith, inr (refl, refl))
   comes (suc j) k s m = by_step j k s m (ahead_of reads stores lines s m) _ refl (comes j (k + 1) _ _)
+
+-- ---- the answer of a guarded run, by its case
+
+pub told_by : {w v : Guarded} {e : List ℕ} {x : Guarded × List ℕ} → (w, e) ≡ x → w ≡ v → (v, e) ≡ x
+told_by g is = rw is at g
 
 -- ---- one step, with nothing guarded
 
@@ -98,10 +102,10 @@ module _ (k : ℕ) (lines : Lines) (s : Machine) (m : List ℕ) (e : List ℕ) w
   once : {w : Guarded} → (w, e) ≡ guarded_full nowhere nowhere 1 k lines s m → Once (w, e)
   once g = subst Once (sym g) (right nowhere nowhere lines 1 k s m)
 
-  pub once_ran : (q : Ended) → (Guarded.Ran q, e) ≡ guarded_full nowhere nowhere 1 k lines s m → Gives (run_full 1 k lines s) m q e
+  pub once_ran : (q : Ended) → (Ok q, e) ≡ guarded_full nowhere nowhere 1 k lines s m → Gives (run_full 1 k lines s) m q e
   once_ran q g = (once g).0
 
-  pub once_not_halted : (h : Halt) → (Guarded.Halted h, e) ≡ guarded_full nowhere nowhere 1 k lines s m → ⊥
+  pub once_not_halted : (h : Halt) → (Err h, e) ≡ guarded_full nowhere nowhere 1 k lines s m → ⊥
   once_not_halted h g = never_halts lines h.machine e h.touch (once g).ahead
 
 -- ---- a step of the run to an address
@@ -148,10 +152,10 @@ module _ (stop bound : ℕ) (lines : Lines) where
 
   -- what the run to the address gives after what the guarded run gave
   abbrev pub onward : Guarded × List ℕ → Ended × List ℕ
-  onward (Guarded.Ran q, e) =
+  onward (Ok q, e) =
       cond (is_made q.reason) (toward stop bound lines q.steps q.machine e)
       (cond (eqb q.machine.registers.counter stop) (ended Made q.steps q.machine, e) (q, e))
-  onward (Guarded.Halted h, e) = toward stop bound lines h.steps h.machine e
+  onward (Err h, e) = toward stop bound lines h.steps h.machine e
 
   refused_elsewhere : (r : Reason) (k : ℕ) (s : Machine) (e : List ℕ) → is_made r ≡ false → eqb s.registers.counter stop ≡ false
       → (ended r k s, e) ≡ onward (ran r k s, e)
@@ -233,7 +237,7 @@ module _ (stop bound : ℕ) (lines : Lines) where
       far g = subst (Where guards nowhere lines (bound - k) k s m) (sym g) (comes guards nowhere lines (bound - k) k s m)
 
       -- it is over at the address, after some steps
-      pub ran_there : (q : Ended) → Given (Guarded.Ran q) → eqb q.machine.registers.counter stop ≡ true
+      pub ran_there : (q : Ended) → Given (Ok q) → eqb q.machine.registers.counter stop ≡ true
           → Nears stop bound lines k s m (ended Made q.steps q.machine) e
       ran_there q g t = record {
         same = led g ∙ by_made' (is_made q.reason);
@@ -247,17 +251,17 @@ module _ (stop bound : ℕ) (lines : Lines) where
           by_made' true = refl
           by_made' false = rw t (sym (there q.steps q.machine e t))
 
-      pub ran_elsewhere : (q : Ended) → Given (Guarded.Ran q) → eqb q.machine.registers.counter stop ≡ false → Nears stop bound lines k s m q e
+      pub ran_elsewhere : (q : Ended) → Given (Ok q) → eqb q.machine.registers.counter stop ≡ false → Nears stop bound lines k s m q e
       ran_elsewhere q g t = record {
         same = led g ∙ rw t;
         some = λ z. let n = subst (Counted guards nowhere lines (k + (bound - k))) (sym g) (guarded_counted guards nowhere lines (bound - k) k s m) z in (omega (arith, n, l), omega (arith, n, all));
       }
 
       -- it is halted after some steps, or before the first
-      pub halted_later : (h : Halt) → Given (Guarded.Halted h) → k < h.steps → Nears stop bound lines k s m (ended Made h.steps h.machine) e
+      pub halted_later : (h : Halt) → Given (Err h) → k < h.steps → Nears stop bound lines k s m (ended Made h.steps h.machine) e
       halted_later h g n = record { same = led g; some = λ z. (n, omega (arith, (far g).1, all)) }
 
-      pub halted_first : (h : Halt) → Given (Guarded.Halted h) → h.steps ≤ k → e ≡ m
+      pub halted_first : (h : Halt) → Given (Err h) → h.steps ≤ k → e ≡ m
       halted_first h g n = ⊎_elim (λ x. absurd (omega (arith, x, n))) (λ x. x.1) (far g).2
 
 -- ---- the test before the first step
@@ -270,3 +274,7 @@ module _ (size stop bound : ℕ) (lines : Lines) (s : Machine) where
   pub to_whole : size ≡ full_memory → run_to size stop bound lines s ≡ run_while (elsewhere stop) bound 0 lines s
   unfolding run_to
   to_whole e = simp (eq-eqb _ _ e)
+
+  -- what is left of it from a later machine gives what the whole of it gives
+  pub arrives : (m : List ℕ) → size ≡ full_memory → {w : Ended × List ℕ} → toward stop bound lines 0 s m ≡ w → exec (run_to size stop bound lines s) m ≡ w
+  arrives m full e = let all : bound - 0 ≡ bound = omega arith in rw (to_whole full) (rw all at e)

@@ -5,7 +5,7 @@ use Rattle.manual.specs.declared.Ended.{Ended}
 use Rattle.manual.specs.Micro.{Gives}
 use Rattle.manual.specs.Lemmas.Programs.{then}
 use Rattle.mos6502_numbers.specs.Machines.{machine_from, lines_from}
-use Rattle.guard.specs.declared.Guarded.{Guarded}
+use Rattle.guard.specs.Guarded.{Guarded}
 use Rattle.guard_stop.specs.Stop.{run_to}
 use Rattle.mos6502_guard.specs.Guarding.{GuardNumbers, guard_numbers, on_numbers}
 use Rattle.mos6502_guard.specs.Stopping.{stop_numbers, run_to_on_numbers}

@@ -7,7 +7,7 @@ use Rattle.instruction.specs.declared.Instruction.TheVariants.{Read}
 use Rattle.instruction.specs.declared.AddressingMode.{AddressingMode}
 use Rattle.instruction.specs.declared.ReadOperation.{ReadOperation}
 use Rattle.instruction.specs.declared.ReadOperation.TheVariants.{ADC, SBC}
-use Rattle.opcode_numbers.specs.Inner.Operations.{operation_at, mode_at}
+use Rattle.instruction.specs.declared.Instruction.{Instruction}
 use Rattle.manual.specs.declared.Effect.{Effect}
 use Rattle.manual.specs.Micro.{Micro, done, ◌>>=◌, fetch}
 use Rattle.manual.specs.Addressing.{target}
@@ -16,12 +16,12 @@ use Rattle.opcode_effects.specs.declared.Performed.{Performed}
 use Rattle.opcode_effects.specs.declared.Pending.{Pending}
 use Rattle.opcode_effects.specs.declared.Row.{Row}
 
--- a row of the table by the numbers of its operation and its mode
-abbrev pub entry_of : ℕ → ℕ → ℕ → Entry
-entry_of operation mode cycles = record { instruction = operation_at operation; mode = mode_at mode; cycles = cycles }
+-- a row of the table
+abbrev pub entry_of : Instruction → AddressingMode → ℕ → Entry
+entry_of operation mode cycles = record { instruction = operation; mode = mode; cycles = cycles }
 
 abbrev pub read_entry : ReadOperation → AddressingMode → ℕ → Entry
-read_entry k mode cycles = record { instruction = Read k; mode = mode; cycles = cycles }
+read_entry k mode cycles = entry_of (Read k) mode cycles
 
 -- what a step of so many cycles takes off the clock of a run
 abbrev pub ticks_of : ℕ → ℕ

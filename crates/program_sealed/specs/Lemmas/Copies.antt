@@ -4,7 +4,7 @@ use Rattle.std.proofs.Common.{ap, sym, ◌∙◌}
 use Rattle.manual.specs.Stepping.{full_memory}
 use Rattle.image_halted.specs.Lemmas.Opening.{short_refused}
 use Rattle.image_halted.specs.Lemmas.Copies.{copy_status, copy_file}
-use Rattle.guard.specs.declared.Guarded.{Guarded}
+use Rattle.guard.specs.Guarded.{Guarded}
 use Rattle.image_run.specs.Report.{image_start}
 use Rattle.guard_extract.specs.Extract.{image_extract}
 use Rattle.guard_extract.specs.Words.{sealed_status}

@@ -1,20 +1,21 @@
 -- One law for each way out. The verdict and the length of the text are what the first writing answers.
-use Rattle.std.proofs.Common.{arith}
-use Rattle.tape_moving.specs.Lemmas.Outcomes.{move_bad, move_no_room, move_written, moved_fits}
+use Rattle.std.proofs.Common.{◌≡◌, Err, rules, arith}
+use Rattle.tape_moving.specs.Lemmas.Outcomes.{move_bad, move_no_room, move_written}
 use Rattle.tape_moving.proofs.deliver.Goals as goal
 
-pub returns-then-verdict-ne-NOT_REFUSED : goal.returns-then-verdict-ne-NOT_REFUSED
-returns-then-verdict-ne-NOT_REFUSED c =
+pub returns-in_err-reach-clause-out_after : goal.returns-in_err-reach-clause-out_after
+returns-in_err-reach-clause-out_after c =
     let args = c.args in
-    record { out_after = move_bad args.from args.to args.text.now args.out.now c.put_records-measured.ensures c.if-verdict-ne-NOT_REFUSED.true; size_in_bounds = omega arith }
+    let refused : c.from_residual.result ≡ Err c.in_err-reach.field-0.0 = search rules in
+    rw refused (move_bad args.from args.to args.text.now args.out.now c.in_err-reach.ensures)
 
-pub returns-then-out-measured : goal.returns-then-out-measured
-returns-then-out-measured c =
+pub returns-then-out-place-clause-out_after : goal.returns-then-out-place-clause-out_after
+returns-then-out-place-clause-out_after c =
     let args = c.args in
-    record { out_after = move_no_room args.from args.to args.text.now args.out.now c.put_records-measured.ensures c.if-verdict-ne-NOT_REFUSED.false c.if-out-measured.true; size_in_bounds = omega arith }
+    move_no_room args.from args.to args.text.now args.out.now c.in_ok-reach.ensures c.new-measure.ensures.begins (omega (arith, c.place.ensures))
 
-pub returns : goal.returns
-returns c =
+pub returns-clause-out_after : goal.returns-clause-out_after
+returns-clause-out_after c =
     let args = c.args in
-    let done = move_written args.from args.to args.text.now args.out.now c.put_records-measured.ensures c.if-verdict-ne-NOT_REFUSED.false c.if-out-measured.false c.put_records.ensures in
-    record { out_after = done; size_in_bounds = moved_fits args.from args.to args.text.now args.out.now done }
+    move_written args.from args.to args.text.now args.out.now c.in_ok-reach.ensures c.new-measure.ensures.begins (omega (arith, c.place.ensures))
+    c.new-written.ensures.same_bytes c.new-written.ensures.begins c.in_ok-reach-2.ensures c.place-size.ensures (search rules)

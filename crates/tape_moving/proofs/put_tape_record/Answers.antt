@@ -1,9 +1,6 @@
 -- The parts one after the other.
-use Rattle.text_writing.specs.Lemmas.Texts.{then}
+use Rattle.text_writing.specs.Lemmas.Writing.{after}
 use Rattle.tape_moving.proofs.put_tape_record.Goals as goal
 
 pub returns : goal.returns
-returns c =
-    then
-    (then (then (then (then c.put_byte-after_mark.ensures c.put_hex2-after_count.ensures) c.put_hex4-after_address.ensures) c.put_text-after_data.ensures) c.put_hex4-after_sum.ensures)
-    c.put_text.ensures
+returns c = after (after (after c.put_head.ensures c.put_text.ensures) c.put_hex4.ensures) c.put_text-2.ensures

@@ -1,9 +1,11 @@
 -- Laws of the records as they are written: their parts and their lengths.
 use Rattle.std.specs.Prelude.{◌≡◌, ℕ, ◌+◌, ◌-◌, ◌*◌, ◌/◌, ◌%◌, ◌<◌, ◌≤◌, List, [], ◌∷◌, ◌++◌, length, take, drop, refl}
 use Rattle.std.proofs.Common.{ap, ◌∙◌, arith, length-append, take_at, drop-drop}
-use Rattle.std.proofs.Math.Option.{Option, some}
+use Rattle.std.proofs.Math.Option.{Option, none, some}
+use Rattle.text_reading.specs.Numbers.{nowhere}
 use Rattle.laws.specs.Answers.{not_refused}
-use Rattle.text_writing.specs.Written.{Wrote}
+use Rattle.text_writing.specs.Written.{Writes}
+use Rattle.text_writing.specs.declared.Writer.{Writer}
 use Rattle.tape_records.specs.Records.{bytes_of, hexes}
 use Rattle.tape_records.specs.Inner.Reading.{summed}
 use Rattle.tape_records.specs.Lemmas.Places.{bytes_length}
@@ -45,13 +47,21 @@ its_line f n w l bs e =
     line_by_parts f w bs size digits sums
 
 -- The same line by what the code has: the text from a place before the data on, and the part of the text that is the data.
-pub line_here : (f : Format) (n w place : ℕ) (s : List ℕ) {t l l' : List ℕ} {sum at next : ℕ} → 0 < place → t ≡ drop (place - 1) s
-    → sum ≡ sum_from n w (drop 1 t) → Wrote l at (line_of f n w (take (place + 2 * n - place) (drop place s)) sum) l' next
-    → Wrote l at (line_of f n w (take (2 * n) (drop place s)) (sum_from n w (drop place s))) l' next
+pub line_here : (f : Format) (n w place : ℕ) (s : List ℕ) {t : List ℕ} {sum : ℕ} {v v' : Writer} → 0 < place → t ≡ drop (place - 1) s
+    → sum ≡ sum_from n w (drop 1 t) → Writes v (line_of f n w (take (place + 2 * n - place) (drop place s)) sum) v'
+    → Writes v (line_of f n w (take (2 * n) (drop place s)) (sum_from n w (drop place s))) v'
 line_here f n w place s h r e wrote =
     let one : place - 1 + 1 ≡ place = omega arith in
     let two : place + 2 * n - place ≡ 2 * n = omega arith in
     rw (two, e, r, drop-drop 1 (place - 1) s, one) at wrote
+
+-- A sum that is not found counts nothing.
+pub lost_sum : (n : ℕ) (l : List ℕ) → n < 65536 → (summed 0 1 (bytes_of n l)).next ≡ nowhere → (summed 0 1 (bytes_of n l)).value ≡ 0
+lost_sum n l h z = by_case (bytes_of n l) refl z
+  where
+    by_case : (o : Option (List ℕ)) → bytes_of n l ≡ o → (summed 0 1 o).next ≡ nowhere → (summed 0 1 o).value ≡ 0
+    by_case none e f = refl
+    by_case (some bs) e f = absurd (omega (arith, bytes_length n l bs e))
 
 -- What is accepted has records that fit, and at most 65,535 of them.
 pub accepted_records : (f : Format) (s : List ℕ) → (contents_of f s).answer ≡ not_refused

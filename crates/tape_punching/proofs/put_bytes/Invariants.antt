@@ -1,14 +1,8 @@
--- The loop's invariant: the bytes that are left are still to be written.
-use Rattle.std.proofs.Common.{◌≡◌, ◌-◌, ◌≤◌, length}
-use lib.Seq.{slice}
-use Rattle.text_writing.specs.Written.{most}
-use Rattle.text_writing.specs.Lemmas.Left.{Left}
+-- The loop's invariant: the bytes so far are written.
+use Rattle.std.proofs.Common.{take}
+use Rattle.text_writing.specs.Written.{Writes}
 use Rattle.tape_records.specs.Records.{hexes}
 use Rattle.tape_punching.proofs.put_bytes.Given as goal
 
-abbrev pub invariant-loop-address : goal.invariant-loop-address
-invariant-loop-address l = (length l.out ≡ length l.initial.out) × (l.address ≤ l.end) × (l.next ≤ most)
-    × Left l.out l.next (hexes (slice l.address l.end l.memory)) l.initial.out l.at (hexes (slice l.start l.end l.memory))
-
-abbrev pub decreases-loop-address : goal.decreases-loop-address
-decreases-loop-address l = l.end - l.address
+abbrev pub invariant-loop-byte : goal.invariant-loop-byte
+invariant-loop-byte l = Writes l.fn.out (hexes (take l.byte-index l.bytes)) l.out

@@ -1,19 +1,8 @@
-use Rattle.std.proofs.Common.{sym, refl, ◌∙◌, arith}
-use Rattle.tape_punching.specs.Lemmas.Punching.{sum_more, sum_none}
+-- One more byte at each turn.
+use Rattle.std.proofs.Common.{add-one, arith}
+use Rattle.tape_punching.specs.Lemmas.Punching.{sum_more}
 use Rattle.tape_punching.proofs.sum_bytes.Goals as goal
 
-pub loop-address-init : goal.loop-address-init
-loop-address-init c = (omega arith, omega arith, refl)
-
-pub loop-address-preserved : goal.loop-address-preserved
-loop-address-preserved c =
-    let args = c.args in (
-      omega arith,
-      omega (arith, c.wrapping_add_u16-value.ensures.value),
-      rw c.wrapping_add_u16-value.ensures.value (sym (sum_more args.memory.now c.loop-address.address args.end c.loop-address.value (omega arith) (omega arith)) ∙ c.loop-address.invariant.2),
-    )
-
-pub returns : goal.returns
-returns c =
-    let args = c.args in
-    sym (sum_none args.memory.now c.loop-address.address args.end c.loop-address.value (omega arith) (omega arith)) ∙ c.loop-address.invariant.2
+pub loop-byte-preserved : goal.loop-byte-preserved
+loop-byte-preserved c =
+    rw (c.loop-byte.invariant, add-one c.loop-byte.byte-index, sum_more c.args.bytes.now c.loop-byte.byte-index (omega arith) c.args.sum)

@@ -1,24 +1,25 @@
 -- Laws of what a punching gives, one for each way out of the code.
-use Rattle.std.specs.Prelude.{◌≡◌, ℕ, suc, ◌+◌, ◌<◌, ◌≤◌, Bool, true, false, cond, not, List, length, ◌==◌, ◌≢◌, nat_lt}
+use Rattle.std.specs.Prelude.{◌≡◌, ℕ, suc, ◌+◌, ◌<◌, ◌≤◌, Bool, true, false, cond, not, List, length, take, drop, ◌-◌, ◌==◌, ◌≢◌, nat_lt}
 use Rattle.std.proofs.Math.Path.{refl}
 use Rattle.std.proofs.Common.{add-one, arith}
 use Rattle.std.proofs.Math.Seq.{slice, length-slice}
 use borrow.Author.Tests.{eq-eqb, ne_eqb, lt-ltb, le-ltb, eqb-true, ltb-false}
 use Rattle.laws.specs.Answers.{not_refused, memory_not_full, first_above_last}
 use Rattle.manual.specs.Stepping.{full_memory}
-use Rattle.text_writing.specs.Written.{Wrote}
+use Rattle.text_writing.specs.Written.{Writes}
+use Rattle.text_writing.specs.declared.Writer.{Writer}
 use Rattle.text_writing.specs.Delivered.{Delivered, refused, delivered}
 use Rattle.text_writing.specs.Lemmas.Delivered.{written, all_there}
 use Rattle.tape_paper.specs.Grammar.{tape_text}
 use Rattle.tape_punching.specs.Punching.{cut, stretch_of, tape_from, tape_into, longest_tape}
-use Rattle.tape_punching.specs.Lemmas.Punching.{tape_size}
+use Rattle.tape_punching.specs.Lemmas.Punching.{stretch_cut, tape_size}
 
 module _ (m : List ℕ) (first last : ℕ) where
-  -- the text as the code writes it, up to the address after the last
-  pub to_the_last : {l l' : List ℕ} {at next : ℕ} → Wrote l at (tape_text 0 (cut first 0 (slice first (last + 1) m))) l' next
-      → Wrote l at (tape_from m first last) l' next
+  -- the text as the code writes it, of the stretch by its length
+  pub to_the_last : first ≤ last → {w w' : Writer} → Writes w (tape_text 0 (cut first 0 (take (last + 1 - first) (drop first m)))) w'
+      → Writes w (tape_from m first last) w'
   unfolding tape_from
-  to_the_last w = rw (add-one last) at w
+  to_the_last h p = rw (stretch_cut m first (last + 1) (omega arith), add-one last) at p
 
   -- a tape of the whole memory has 166,588 characters, and no tape has more
   pub text_length : length m ≡ full_memory → last < 65536 → length (tape_from m first last) ≤ longest_tape

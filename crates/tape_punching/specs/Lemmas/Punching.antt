@@ -1,29 +1,24 @@
 -- Laws of a punched tape, for the proofs of the code: `end` is the address after the stretch.
 use Rattle.std.specs.Prelude.{◌≡◌, ℕ, zero, suc, ◌+◌, ◌-◌, ◌*◌, ◌/◌, ◌%◌, ◌<◌, ◌≤◌, min, Bool, true, false, List, [], ◌∷◌, ◌++◌, length, take, drop, nat_lt, slice_index, refl}
-use Rattle.std.proofs.Common.{ap, ◌∙◌, add-zero, zero-add, suc-add, add-one, arith, length-append, length-take, drop_of_length-le, take_all, take-take, drop-drop, ltb-true, ltb-false}
+use Rattle.std.proofs.Common.{ap, ◌∙◌, add-zero, zero-add, suc-add, add-one, arith, length-append, length-take, length-drop, drop_of_length-le, take_all, take-take, drop-drop, take-suc, ltb-true, ltb-false}
 use Rattle.std.proofs.Math.Decide.{dec_lt}
 use Rattle.std.proofs.Math.Seq.{slice, slice-cons, slice_empty, length-slice, take-nil, drop-nil}
-use Rattle.tape_records.specs.Records.{total}
+use Rattle.text_writing.specs.Numerals.{hex2}
+use Rattle.tape_records.specs.Records.{total, hexes}
+use Rattle.tape_records.specs.Theorems.Sums.{total_append, hexes_append}
 use Rattle.tape_records.specs.Contents.{Stretch}
 use Rattle.tape_records.specs.Grammar.{newline}
 use Rattle.tape_paper.specs.Grammar.{record_text, tape_text}
 use Rattle.tape_paper.specs.Lemmas.Lawful.{text_size}
 use Rattle.tape_punching.specs.Punching.{cut}
 
-module _ (m : List ℕ) (at end : ℕ) where
-  -- one byte of a stretch
-  pub slice_more : at < end → end ≤ length m → slice at end m ≡ slice_index m at ∷ slice (at + 1) end m
-  slice_more h f = rw (add-one at) (slice-cons at end m 0 h f)
+-- one byte more of those that are summed, and of those that are written
+module _ (bs : List ℕ) (i : ℕ) (h : i < length bs) where
+  pub sum_more : (sum : ℕ) → (sum + total (take (suc i) bs)) % 65536 ≡ ((sum + total (take i bs)) % 65536 + slice_index bs i) % 65536
+  sum_more sum = rw (take-suc bs i 0 h, total_append (take i bs) (slice_index bs i ∷ [])) (omega arith)
 
-  pub slice_none : at ≡ end → slice at end m ≡ []
-  slice_none e = rw e (slice_empty end m)
-
-  pub sum_more : (value : ℕ) → at < end → end ≤ length m
-      → (value + total (slice at end m)) % 65536 ≡ ((value + slice_index m at) % 65536 + total (slice (at + 1) end m)) % 65536
-  sum_more value h f = rw (slice_more h f) (omega arith)
-
-  pub sum_none : (value : ℕ) → at ≡ end → value < 65536 → (value + total (slice at end m)) % 65536 ≡ value
-  sum_none value e h = rw (slice_none e) (omega arith)
+  pub hexes_more : hexes (take (suc i) bs) ≡ hexes (take i bs) ++ hex2 (slice_index bs i)
+  hexes_more = ap hexes (take-suc bs i 0 h) ∙ hexes_append (take i bs) (slice_index bs i ∷ [])
 
 -- bytes that stand in the record before are passed over
 skip : (at covered : ℕ) (bs : List ℕ) → cut at covered bs ≡ cut (at + covered) 0 (drop covered bs)
@@ -44,45 +39,36 @@ take_drop zero c l = rw (zero-add c)
 take_drop (suc a) c [] = rw (take-nil c, take-nil (suc a + c))
 take_drop (suc a) c (x ∷ l) = rw (suc-add a c) (take_drop a c l)
 
-module _ (m : List ℕ) (at end : ℕ) (h : at < end) (f : end ≤ length m) where
-  first_bytes : (after : ℕ) → after ≡ at + min 24 (end - at) → take 24 (slice at end m) ≡ slice at after m
-  first_bytes after e = by_test (nat_lt (end - at) 24) refl
-    where
-      by_test : (t : Bool) → nat_lt (end - at) 24 ≡ t → take 24 (slice at end m) ≡ slice at after m
-      by_test true g =
-          let few = ltb-true (end - at) 24 g in
-          let all : after ≡ end = omega arith in
-          rw all (take_all 24 (slice at end m) (rw (length-slice at end m f) (omega arith)))
-      by_test false g =
-          let many = ltb-false (end - at) 24 g in
-          let whole : after ≡ at + 24 = omega arith in
-          rw whole (take_drop at 24 (take end m) ∙ ap (λ (l : List ℕ). drop at l) (take-take (at + 24) end m (omega arith)))
+-- the stretch by its first address and its length
+pub stretch_cut : (m : List ℕ) (first end : ℕ) → first ≤ end → take (end - first) (drop first m) ≡ slice first end m
+stretch_cut m first end h =
+    let all : first + (end - first) ≡ end = omega arith in
+    take_drop first (end - first) m ∙ ap (λ (n : ℕ). drop first (take n m)) all
 
-  other_bytes : (after : ℕ) → after ≡ at + min 24 (end - at) → cut (at + 24) 0 (drop 24 (slice at end m)) ≡ cut after 0 (slice after end m)
-  other_bytes after e = by_test (nat_lt (end - at) 24) refl
-    where
-      by_test : (t : Bool) → nat_lt (end - at) 24 ≡ t → cut (at + 24) 0 (drop 24 (slice at end m)) ≡ cut after 0 (slice after end m)
-      by_test true g =
-          let few = ltb-true (end - at) 24 g in
-          let all : after ≡ end = omega arith in
-          let size : length (slice at end m) ≤ 24 = rw (length-slice at end m f) (omega arith) in
-          rw (all, slice_empty end m, drop_of_length-le (slice at end m) {i = 24} size)
-      by_test false g =
-          let many = ltb-false (end - at) 24 g in
-          let whole : after ≡ at + 24 = omega arith in
-          rw (whole, drop-drop 24 at (take end m))
+-- The next record, and the tape after it.
+pub tape_more : (k at n : ℕ) (bs : List ℕ) → 0 < length bs → n ≡ min (length bs) 24
+    → tape_text k (cut at 0 bs) ≡ (record_text at (take n bs) ++ newline) ++ tape_text (k + 1) (cut (at + n) 0 (drop n bs))
+tape_more k at n bs some e = ap (tape_text k) (next_record_lem at bs some) ∙ by_test (nat_lt (length bs) 24) refl
+  where
+    by_test : (t : Bool) → nat_lt (length bs) 24 ≡ t
+        → tape_text k (record { first = at; bytes = take 24 bs } ∷ cut (at + 24) 0 (drop 24 bs))
+        ≡ (record_text at (take n bs) ++ newline) ++ tape_text (k + 1) (cut (at + n) 0 (drop n bs))
+    by_test true g =
+        let few = ltb-true (length bs) 24 g in
+        let all : n ≡ length bs = omega arith in
+        rw (all, take_all 24 bs (omega arith), take_all (length bs) bs (omega arith), drop_of_length-le bs {i = 24} (omega arith), drop_of_length-le bs {i = length bs} (omega arith))
+    by_test false g =
+        let many = ltb-false (length bs) 24 g in
+        let whole : n ≡ 24 = omega arith in
+        rw whole
 
-  -- The next record, and the tape after it.
-  pub tape_more : (k after : ℕ) → after ≡ at + min 24 (end - at)
-      → tape_text k (cut at 0 (slice at end m)) ≡ (record_text at (slice at after m) ++ newline) ++ tape_text (k + 1) (cut after 0 (slice after end m))
-  tape_more k after e =
-      let some : 0 < length (slice at end m) = rw (length-slice at end m f) (omega arith) in
-      ap (tape_text k) (next_record_lem at (slice at end m) some)
-      ∙ ap (λ (bs : List ℕ). record_text at bs ++ newline ++ tape_text (k + 1) (cut (at + 24) 0 (drop 24 (slice at end m)))) (first_bytes after e)
-      ∙ ap (λ (rs : List Stretch). record_text at (slice at after m) ++ newline ++ tape_text (k + 1) rs) (other_bytes after e)
+-- what is left of some bytes, as the code cuts it
+pub bytes_left : (bs : List ℕ) (n : ℕ) → take (length bs - n) (drop n bs) ≡ drop n bs
+bytes_left bs n = take_all (length bs - n) (drop n bs) (rw (length-drop n bs) (omega arith))
 
-pub tape_none : (m : List ℕ) (k at end : ℕ) → at ≡ end → tape_text k (cut at 0 (slice at end m)) ≡ record_text k [] ++ newline
-tape_none m k at end e = rw (slice_none m at end e)
+pub tape_none : (k at : ℕ) (bs : List ℕ) → length bs ≤ 0 → tape_text k (cut at 0 bs) ≡ record_text k [] ++ newline
+tape_none k at [] h = refl
+tape_none k at (b ∷ bs) h = absurd (omega arith)
 
 -- how many records there are of some bytes: one, and those of the bytes after its 24
 one_record : (n : ℕ) → (suc n - 0 + 23) / 24 ≡ 1 + (n - 23 + 23) / 24

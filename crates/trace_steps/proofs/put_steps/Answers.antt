@@ -1,81 +1,61 @@
-use Prim.Native.Nat.{◌+◌, ◌-◌, ◌≤◌}
-use mathlib.Core.Path.{◌≡◌, refl, sym, ◌∙◌}
-use mathlib.Core.Bool.{true, false}
-use native.Mathlib.Omega.{arith}
+-- One more step at each turn.
+use Rattle.std.proofs.Common.{◌≡◌, refl, ◌+◌, ◌≤◌, true, false, sym, ◌∙◌, arith}
 use Rattle.manual.specs.Outcomes.{is_made}
 use Rattle.manual.proofs.Lemmas.StepLaws.{long_short, long_whole}
-use Rattle.text_writing.specs.Lemmas.Texts.{nothing}
-use Rattle.text_writing.specs.Lemmas.Left.{less_left, none_left}
+use Rattle.text_writing.specs.Lemmas.Writing.{none_written, less_remains, none_remains}
 use Rattle.trace_text.specs.Lemmas.Findings.{one_longer, no_longer}
 use Rattle.trace_steps.specs.Lemmas.Traces.{run_next, run_refused, next_entry, no_entry, no_steps, no_more_steps, on_full_lem, not_on_full}
 use Rattle.trace_steps.proofs.put_steps.Goals as goal
 
-pub returns-then-memory-ne-FULL_MEMORY : goal.returns-then-memory-ne-FULL_MEMORY
-returns-then-memory-ne-FULL_MEMORY c = record {
-  gives = long_short _ _ _ _ _ c.if-memory-ne-FULL_MEMORY.true ∙ rw c.new.ensures;
-  wrote = rw (not_on_full _ _ _ _ c.if-memory-ne-FULL_MEMORY.true) (nothing (omega arith) (omega arith));
-  size_bound = omega arith;
-}
+pub returns-in_default-clause-gives : goal.returns-in_default-clause-gives
+returns-in_default-clause-gives c = long_short _ _ _ _ _ c.in_default.ensures.cases ∙ rw c.new.ensures
 
-pub loop-steps-init : goal.loop-steps-init
-loop-steps-init c =
-    let s = c.args in
-    let all : s.bound - 0 ≡ s.bound = omega arith in
-    (refl, c.if-memory-ne-FULL_MEMORY.false, omega arith, omega arith, omega arith, λ k j w. rw all at w, rw all)
-
-pub overflow_add-steps : goal.overflow_add-steps
-overflow_add-steps c = omega (arith, c.loop-steps-test.true, c)
-
-pub loop-steps-smaller : goal.loop-steps-smaller
-loop-steps-smaller c = omega (arith, c.loop-steps-test.true)
+pub returns-in_default-clause-wrote : goal.returns-in_default-clause-wrote
+returns-in_default-clause-wrote c = rw (not_on_full _ _ _ _ c.in_default.ensures.cases) (none_written (omega arith) (omega arith))
 
 pub loop-steps-preserved : goal.loop-steps-preserved
 loop-steps-preserved c =
-    let s = c.args in
     let h = c.loop-steps.invariant in
-    let step = c.put_step-shown.ensures in
-    let made : is_made c.put_step-shown.result.stepped.reason ≡ true = sym c.is_made.ensures ∙ c.if-is_made.true in (
-      omega (arith, h.0),
-      omega (arith, h.1),
-      omega (arith, c.loop-steps-test.true),
-      omega (arith, step.wrote.ends),
-      one_longer s.view c.loop-steps.steps h.4 step.next_bound,
-      less_left h.5 (next_entry _ _ _ _ step.gives _ _ c.loop-steps-test.true _ made) step.wrote,
-      h.6 ∙ run_next _ _ _ _ step.gives _ _ c.loop-steps-test.true made,
+    let step = c.put_step-stepped.ensures in
+    let made : is_made c.put_step-stepped.result.reason ≡ true = sym c.is_made.ensures ∙ c.if-not-is_made.false in (
+      one_longer c.args.view _ c.loop-steps.steps h.0 step.next_bound,
+      less_remains h.1 (next_entry _ _ _ _ step.gives _ _ c.loop-steps-test.true _ made) step.wrote,
+      h.2 ∙ run_next _ _ _ _ step.gives _ _ c.loop-steps-test.true made,
     )
 
-pub shape_of-out-else-is_made : goal.shape_of-out-else-is_made
-shape_of-out-else-is_made c = omega (arith, c.loop-steps.invariant.0)
+pub returns-then-not-is_made-clause-gives : goal.returns-then-not-is_made-clause-gives
+returns-then-not-is_made-clause-gives c =
+    let whole = c.in-Some.ensures.cases in
+    let step = c.put_step-stepped.ensures in
+    let refused : is_made c.put_step-stepped.result.reason ≡ false = sym c.is_made.ensures ∙ c.if-not-is_made.true in
+    rw (long_whole _ _ _ _ whole.long)
+    ((rw whole.same at c.loop-steps.invariant.2) ∙ run_refused _ _ _ _ step.gives _ _ c.loop-steps-test.true refused ∙ rw c.new-then-not-is_made.ensures)
 
-pub shape_of-memory-else-is_made : goal.shape_of-memory-else-is_made
-shape_of-memory-else-is_made c = omega (arith, c.loop-steps.invariant.1, c.if-memory-ne-FULL_MEMORY.false)
+pub returns-then-not-is_made-clause-wrote : goal.returns-then-not-is_made-clause-wrote
+returns-then-not-is_made-clause-wrote c =
+    let whole = c.in-Some.ensures.cases in
+    let step = c.put_step-stepped.ensures in
+    let refused : is_made c.put_step-stepped.result.reason ≡ false = sym c.is_made.ensures ∙ c.if-not-is_made.true in
+    let all = less_remains c.loop-steps.invariant.1 (no_entry _ _ _ _ step.gives _ _ c.loop-steps-test.true _ refused) step.wrote in
+    rw (on_full_lem _ _ _ _ whole.long) (rw whole.same at (none_remains all refl (omega arith) (omega arith)))
 
-pub returns-else-is_made : goal.returns-else-is_made
-returns-else-is_made c =
-    let s = c.args in
-    let h = c.loop-steps.invariant in
-    let step = c.put_step-shown.ensures in
-    let full = c.if-memory-ne-FULL_MEMORY.false in
-    let few : c.loop-steps.steps + 1 ≤ s.bound = omega (arith, c.loop-steps-test.true) in
-    let refused : is_made c.put_step-shown.result.stepped.reason ≡ false = sym c.is_made.ensures ∙ c.if-is_made.false in record {
-      gives = rw (long_whole _ _ _ _ full) (h.6 ∙ run_refused _ _ _ _ step.gives _ _ c.loop-steps-test.true refused ∙ rw c.new-else-is_made.ensures);
-      wrote = rw (on_full_lem _ _ _ _ full) (none_left (less_left h.5 (no_entry _ _ _ _ step.gives _ _ c.loop-steps-test.true _ refused) step.wrote) refl (omega arith) (omega (arith, step.wrote.ends)));
-      size_bound = no_longer s.view (c.loop-steps.steps + 1) (one_longer s.view c.loop-steps.steps h.4 step.next_bound) few;
-    }
+pub returns-then-not-is_made-clause-size_bound : goal.returns-then-not-is_made-clause-size_bound
+returns-then-not-is_made-clause-size_bound c =
+    let few : c.loop-steps.steps + 1 ≤ c.args.bound = omega (arith, c.loop-steps-test.true) in
+    no_longer c.args.view _ (c.loop-steps.steps + 1) (one_longer c.args.view _ c.loop-steps.steps c.loop-steps.invariant.0 c.put_step-stepped.ensures.next_bound) few
 
-pub shape_of-out : goal.shape_of-out
-shape_of-out c = c.loop-steps.invariant.0
+pub returns-clause-gives : goal.returns-clause-gives
+returns-clause-gives c =
+    let whole = c.in-Some.ensures.cases in
+    let steps : c.loop-steps.steps ≡ c.args.bound = omega (arith, c.loop-steps-test.false) in
+    rw (long_whole _ _ _ _ whole.long)
+    ((rw whole.same at c.loop-steps.invariant.2) ∙ no_more_steps _ _ _ _ c.loop-steps-test.false ∙ rw (c.new-2.ensures, steps))
 
-pub shape_of-memory : goal.shape_of-memory
-shape_of-memory c = omega (arith, c.loop-steps.invariant.1, c.if-memory-ne-FULL_MEMORY.false)
+pub returns-clause-wrote : goal.returns-clause-wrote
+returns-clause-wrote c =
+    let whole = c.in-Some.ensures.cases in
+    rw (on_full_lem _ _ _ _ whole.long)
+    (rw whole.same at (none_remains c.loop-steps.invariant.1 (no_steps _ _ _ _ _ c.loop-steps-test.false) (omega arith) (omega arith)))
 
-pub returns : goal.returns
-returns c =
-    let s = c.args in
-    let h = c.loop-steps.invariant in
-    let full = c.if-memory-ne-FULL_MEMORY.false in
-    let all = c.loop-steps-test.false in record {
-      gives = rw (long_whole _ _ _ _ full) (h.6 ∙ no_more_steps _ _ _ _ all ∙ rw c.new-2.ensures);
-      wrote = rw (on_full_lem _ _ _ _ full) (none_left h.5 (no_steps _ _ _ _ _ all) (omega (arith, h.0)) h.3);
-      size_bound = no_longer s.view c.loop-steps.steps h.4 h.2;
-    }
+pub returns-clause-size_bound : goal.returns-clause-size_bound
+returns-clause-size_bound c = no_longer c.args.view _ c.loop-steps.steps c.loop-steps.invariant.0 (omega arith)

@@ -1,5 +1,5 @@
 -- Laws of what is shown of a run, for the proofs of the code.
-use Rattle.std.specs.Prelude.{ℕ, suc, ◌+◌, ◌-◌, ◌≤◌, ◌<◌, ◌≡◌, refl, true, false, List, [], ◌++◌, length}
+use Rattle.std.specs.Prelude.{ℕ, suc, ◌+◌, ◌-◌, ◌≤◌, ◌<◌, ◌≡◌, refl, true, false, List, [], ◌++◌, length, take}
 use Rattle.std.proofs.Common.{ap, sym, ◌∙◌, arith, eq-eqb, ne_eqb}
 use Rattle.manual.specs.declared.Machine.{Machine}
 use Rattle.manual.specs.declared.Stepped.{Stepped}
@@ -11,7 +11,12 @@ use Rattle.manual.specs.Stepping.{run_while, full_memory, step_full, run_full}
 use Rattle.manual.specs.Lemmas.Programs.{exec_then}
 use Rattle.manual.proofs.Lemmas.StepLaws.{step_late, step_serves, step_undefined, step_defined}
 use Rattle.manual.proofs.Theorems.Answers.{Way, late, serves, undefined, ready, way}
-use Rattle.listing.specs.Lines.{instruction_at}
+use Rattle.std.proofs.Math.Seq.{length-sets}
+use Rattle.text_writing.specs.Written.{Writes}
+use Rattle.text_writing.specs.declared.Writer.{Writer}
+use Rattle.text_writing.specs.Lemmas.Texts.{read_back}
+use Rattle.listing.specs.Lines.{instruction_at, longest_instruction}
+use Rattle.listing.specs.Lemmas.Lengths.{instruction_length}
 use Rattle.trace_text.specs.declared.View.{View}
 use Rattle.trace_text.specs.Entries.{entry_text}
 use Rattle.trace_steps.specs.Traces.{shown, full_trace, trace}
@@ -35,6 +40,26 @@ shown_made view m s q h = rw h
 
 pub shown_refused : (view : View) (m : List ℕ) (s : Machine) (q : Stepped) → is_made q.reason ≡ false → shown view m s q ≡ []
 shown_refused view m s q h = rw h
+
+-- and where the instruction was written down first
+pub shown_as : (view : View) (m : List ℕ) (s : Machine) (q : Stepped) {i : List ℕ} {w v : Writer}
+    → Writes w (entry_text view i (q.machine.cycles - s.cycles) q.first q.machine) v → is_made q.reason ≡ true
+    → i ≡ instruction_at m s.registers.counter
+    → Writes w (shown view m s q) v
+shown_as view m s q wrote made same = rw (shown_made view m s q made) (rw same at wrote)
+
+-- the instruction in a buffer of its own
+module _ (m : List ℕ) (at : ℕ) {w v : Writer} {size : ℕ} {b : List ℕ} (room : length w.out.now ≡ longest_instruction) (begins : w.at ≡ 0)
+    (wrote : Writes w (instruction_at m at) v) (place : size ≡ v.at) (same : b ≡ v.out.now) where
+  back : (v.at ≡ length (instruction_at m at)) × (take v.at v.out.now ≡ instruction_at m at)
+  back = read_back (rw begins at wrote.wrote) (omega (arith, room, instruction_length m at))
+
+  pub in_buffer : take size b ≡ instruction_at m at
+  in_buffer = rw (same, place) back.1
+
+  pub inside_buffer : size ≤ length b
+  inside_buffer =
+      omega (arith, back.0, place, instruction_length m at, ap length same, ap length wrote.wrote.bytes, length-sets w.out.now w.at (instruction_at m at), room)
 
 -- ---- a run, before step k of a bound
 

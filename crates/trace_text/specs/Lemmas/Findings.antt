@@ -16,13 +16,13 @@ pub line_length : (t : List ℕ) (cycles first : ℕ) → cycles < 2 ^ 64 → le
 line_length t cycles first h = simp length-append (omega (arith, decimal_length 19 cycles (omega arith)))
 
 -- how long entries are: after one more, and of as many as there may be
-pub one_longer : (view : View) (steps : ℕ) {next after : ℕ} → next ≤ longest view * steps → after ≤ next + longest view → after ≤ longest view * (steps + 1)
-one_longer States steps h l = omega arith
-one_longer Steps steps h l = omega arith
+pub one_longer : (view : View) (start steps : ℕ) {next after : ℕ} → next ≤ start + longest view * steps → after ≤ next + longest view → after ≤ start + longest view * (steps + 1)
+one_longer States start steps h l = omega arith
+one_longer Steps start steps h l = omega arith
 
-pub no_longer : (view : View) (steps : ℕ) {next bound : ℕ} → next ≤ longest view * steps → steps ≤ bound → next ≤ longest view * bound
-no_longer States steps h l = omega arith
-no_longer Steps steps h l = omega arith
+pub no_longer : (view : View) (start steps : ℕ) {next bound : ℕ} → next ≤ start + longest view * steps → steps ≤ bound → next ≤ start + longest view * bound
+no_longer States start steps h l = omega arith
+no_longer Steps start steps h l = omega arith
 
 pub longest_is : (view : View) → longest view ≤ 52
 longest_is States = omega arith

@@ -6,8 +6,7 @@ use Rattle.manual.specs.Interrupts.{idle}
 use Rattle.manual.specs.Stepping.{full_memory}
 use Rattle.guard_maps.specs.Maps.{in_map, nowhere}
 use Rattle.guard_maps.specs.Lemmas.Maps.{empty_map}
-use Rattle.guard.specs.declared.Guarded.{Guarded}
-use Rattle.guard.specs.Guarded.{guarded_full}
+use Rattle.guard.specs.Guarded.{Guarded, guarded_full}
 use Rattle.guard.specs.Lemmas.Guarding.{part_halts, part_stops, part_goes}
 use Rattle.guard_extract.proofs.parts.guard_on.Goals as goal
 

@@ -4,4 +4,4 @@ use Rattle.opcode_effects.specs.Theorems.Rows.{fetch_performs}
 use Rattle.opcode_effects.proofs.keeping.subtracts.Goals as goal
 
 pub returns : goal.returns
-returns c = fetch_performs SBC _ _ _ _ (rw c.mode_at.ensures at c.fetched.ensures)
+returns c = fetch_performs SBC _ _ _ _ c.fetched.ensures

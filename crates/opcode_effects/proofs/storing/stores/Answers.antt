@@ -1,25 +1,11 @@
 -- The instruction's effect, and its cycles, for which there is room.
-use mathlib.Core.Path.{◌∙◌}
-use native.Mathlib.Omega.{arith}
-use Rattle.opcode_numbers.specs.Inner.Operations.{operation_at, mode_at}
-use Rattle.opcode_numbers.specs.Lemmas.Storing.{storing_at_lem}
-use Rattle.manual.specs.Micro.{Gives}
-use Rattle.manual.specs.Instructions.{perform}
+use Rattle.std.proofs.Common.{◌∙◌, arith}
 use Rattle.manual.proofs.Lemmas.Extra.{extra_of}
 use Rattle.opcode_effects.specs.Theorems.Rows.{entry_performed}
 use Rattle.opcode_effects.proofs.storing.stores.Goals as goal
 
--- the instruction's effect
-
-pub execute_storing-requires : goal.execute_storing-requires
-execute_storing-requires c = rw (c.storing_at.ensures ∙ storing_at_lem _ _ c.requires.1, c.mode_at.ensures) c.requires.1
-
 pub counted-requires : goal.counted-requires
-counted-requires c =
-    let gives : Gives (perform (operation_at c.args.operation) (mode_at c.args.mode) c.args.registers) c.args.memory.now c.execute_storing.result c.execute_storing.new.memory = rw (c.storing_at.ensures ∙ storing_at_lem _ _ c.requires.1, c.mode_at.ensures) at c.execute_storing.ensures in
-    omega (arith, extra_of _ _ _ _ gives, c.requires.0)
+counted-requires c = omega (arith, extra_of _ _ _ _ c.execute_storing.ensures, c.requires.0)
 
 pub returns : goal.returns
-returns c =
-    let gives : Gives (perform (operation_at c.args.operation) (mode_at c.args.mode) c.args.registers) c.args.memory.now c.execute_storing.result c.execute_storing.new.memory = rw (c.storing_at.ensures ∙ storing_at_lem _ _ c.requires.1, c.mode_at.ensures) at c.execute_storing.ensures in
-    entry_performed _ _ _ gives ∙ rw c.counted.ensures
+returns c = entry_performed _ _ _ c.execute_storing.ensures ∙ rw c.counted.ensures
