@@ -1,4 +1,3 @@
 pub mod Failing
 pub mod Names
-pub mod Lemmas
 pub mod Theorems

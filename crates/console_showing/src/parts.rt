@@ -16,16 +16,8 @@ pub trait Parts {
 
     ghost STEPS: { ℕ };
 
-    ghost some: { 0 < STEPS };
-
     // Makes a part of so many steps at most. What fails there is noted.
-    fn make(
-        &self,
-        console: &mut Console,
-        machine: Machine,
-        bound: u64,
-        image: &mut [u8],
-    ) -> Ended
+    fn make(&self, console: &mut Console, machine: Machine, bound: u64, image: &mut [u8]) -> Ended
         requires { bound ≤ STEPS }
         ensures gives { Gives (long_run (length image.old) bound idle machine) image.old result image.new }
         ensures failure_stays { FailureStays console.old.failed console.new.failed };
@@ -42,6 +34,7 @@ pub fn run_in_parts<P: Parts>(
     steps: u64,
     image: &mut [u8],
 ) -> Ended
+    requires { 0 < P.STEPS }
     ensures gives { console.new.failed ≡ 0 → Gives (long_run (length image.old) steps idle start) image.old result image.new }
     ensures failure_stays { FailureStays console.old.failed console.new.failed }
 {

@@ -28,31 +28,39 @@ use console::{Console, Done, argument_count, argument_is, hand_over, names_from,
 use console_ending::say_refused;
 use console_files::{can_replace, is_same_file, not_written, replace};
 use console_tapes::{read_tape_input, say_verdict};
-use laws::answers::*;
+use laws::answers::Refusal;
 use manual::FULL_MEMORY;
 use memory::image_buffer;
 use statuses::first_of;
-use tape_loading::{Format, Verdict, format_of, read_text};
+use tape_loading::{Fault, Verdict, format_of, number_and_reach, read_text};
 use tape_paper::tape_buffer;
 
-// The argument that names the image, if there is one.
-const IMAGE: usize = 2;
-
-// The arguments that name the other files.
-#[derive(Drop)]
+// The arguments that name the files: TAPE, AFTER, and IMAGE if there is one.
+#[derive(Clone, Copy)]
 struct Names {
     tape: usize,
     after: usize,
+    image: Option<usize>,
 }
 
 // One answer is about the image, and all others about the tape.
-fn explain(console: &mut Console, tape: usize, format: Format, verdict: Verdict, image: &[u8])
+fn explain(console: &mut Console, names: Names, tape: &[u8], verdict: Verdict, image: &[u8])
     ensures { FailureStays console.old.failed console.new.failed }
 {
-    if verdict.answer == MEMORY_NOT_FULL {
-        return say_refused(console, IMAGE, image);
+    match (verdict, names.image) {
+        (
+            Err(
+                Fault {
+                    reason: Refusal::MemoryNotFull,
+                    ..
+                },
+            ),
+            Some(index),
+        ) => {
+            say_refused(console, index, image);
+        }
+        _ => say_verdict(console, names.tape, format_of(tape), verdict),
     }
-    say_verdict(console, tape, format, verdict);
 }
 
 // Keeps a memory. `tape` was laid onto `before`: only if all of it is good, and only what the definition says.
@@ -84,17 +92,19 @@ fn load_onto(
     ensures { result ≡ first_of console.new.failed (read_text tape.now before.now).answer }
 {
     let verdict = read_text(tape, image);
-    explain(console, names.tape, format_of(tape), verdict, before);
-    if first_of(console.failed, verdict.answer) != 0 {
-        return not_written(console, names.after, verdict.answer);
+    explain(console, names, tape, verdict, before);
+    let (answer, _) = number_and_reach(verdict);
+    if first_of(console.failed, answer) != 0 {
+        return not_written(console, names.after, answer);
     }
-    keep(console, names.after, tape, before, verdict.answer, image)
+    keep(console, names.after, tape, before, answer, image)
 }
 
-// Loads a tape onto the image that is named, which is read into both buffers.
+// Loads a tape onto the image that an argument names, which is read into both buffers.
 fn load_image(
     console: &mut Console,
     names: Names,
+    index: usize,
     tape: &[u8],
     input: &mut [u8],
     image: &mut [u8],
@@ -102,18 +112,13 @@ fn load_image(
     requires { length input.old ≤ length image.old }
     ensures { result.status ≡ first_of console.new.failed (read_text tape.now (take result.size input.new)).answer }
 {
-    let size = console.read_two(IMAGE, input, image);
-    if console.failed != 0 {
-        return Done {
-            size: size,
-            status: console.failed,
-        };
-    }
-    let status = load_onto(console, names, tape, &input[..size], &mut image[..size]);
-    Done {
-        size: size,
-        status: status,
-    }
+    let size = console.read_two(index, input, image);
+    let status = if console.failed != 0 {
+        console.failed
+    } else {
+        load_onto(console, names, tape, &input[..size], &mut image[..size])
+    };
+    Done { size, status }
 }
 
 // Loads a tape onto zeros.
@@ -121,23 +126,23 @@ fn load_zeros(console: &mut Console, names: Names, tape: &[u8]) -> u8
     ensures { result ≡ first_of console.new.failed (read_text tape.now (replicate full_memory 0)).answer }
 {
     let zeros = [0u8; FULL_MEMORY];
-    let mut image = [0u8; FULL_MEMORY];
+    let mut image = zeros;
     load_onto(console, names, tape, &zeros, &mut image)
 }
 
 // Loads a tape that was read.
-fn load_tape(console: &mut Console, names: Names, onto: bool, tape: &[u8]) -> u8 {
-    if !onto {
+fn load_tape(console: &mut Console, names: Names, tape: &[u8]) -> u8 {
+    let Some(index) = names.image else {
         return load_zeros(console, names, tape);
-    }
+    };
     let mut input = image_buffer();
     let mut image = image_buffer();
-    let done = load_image(console, names, tape, &mut input, &mut image);
-    done.status
+    load_image(console, names, index, tape, &mut input, &mut image).status
 }
 
-fn load(rt: HostRuntime, names: Names, onto: bool) -> u8 {
-    if is_same_file(rt, names.after, names.tape) || onto && is_same_file(rt, names.after, IMAGE) {
+fn load(rt: HostRuntime, names: Names) -> u8 {
+    let is_after = |index| is_same_file(rt, names.after, index);
+    if is_after(names.tape) || names.image.is_some_and(is_after) {
         return refuse(
             rt,
             b"load: AFTER is TAPE or IMAGE, which would be lost; name another file\n",
@@ -153,14 +158,17 @@ fn load(rt: HostRuntime, names: Names, onto: bool) -> u8 {
     if console.failed != 0 {
         return console.failed;
     }
-    load_tape(&mut console, names, onto, &tape[..size])
+    load_tape(&mut console, names, &tape[..size])
 }
 
-fn load_by_names(rt: HostRuntime, from: usize, onto: bool) -> u8
-    requires { from ≤ 255 }
-{
+fn load_by_arguments(rt: HostRuntime) -> u8 {
     let usage =
         b"load: give TAPE AFTER, and before them --onto IMAGE or nothing; ./run load --help\n";
+    let (image, from) = if argument_is(rt, 1, b"--onto") {
+        (Some(2), 3)
+    } else {
+        (None, 1)
+    };
     let Some(tape) = names_from(rt, from) else {
         return refuse(rt, usage);
     };
@@ -171,14 +179,7 @@ fn load_by_names(rt: HostRuntime, from: usize, onto: bool) -> u8
     if argument_is(rt, after, b"-") || argument_is(rt, after, b"") {
         return refuse(rt, b"load: AFTER is the name of a file\n");
     }
-    load(rt, Names { tape, after }, onto)
-}
-
-fn load_by_arguments(rt: HostRuntime) -> u8 {
-    if argument_is(rt, 1, b"--onto") {
-        return load_by_names(rt, IMAGE + 1, true);
-    }
-    load_by_names(rt, 1, false)
+    load(rt, Names { tape, after, image })
 }
 
 fn main(rt: HostRuntime) {

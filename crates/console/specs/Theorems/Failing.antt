@@ -28,3 +28,19 @@ none_noted before status = by_test (eqb before 0) refl
     by_test : (t : Bool) → eqb before 0 ≡ t → cond t status before ≡ 0 → (before ≡ 0) × (status ≡ 0)
     by_test true e z = (eqb-true before 0 e, z)
     by_test false e z = absurd (eqb-false before 0 e z)
+
+-- If nothing is noted in the end, nothing had failed before.
+pub none_before : (before : ℕ) {after : ℕ} → FailureStays before after → after ≡ 0 → before ≡ 0
+none_before before {after} stays z = by_test (eqb before 0) refl
+  where
+    by_test : (t : Bool) → eqb before 0 ≡ t → before ≡ 0
+    by_test true e = eqb-true before 0 e
+    by_test false e = sym (stays (eqb-false before 0 e)) ∙ z
+
+-- Once something is noted, no later status counts.
+pub same_noted : (before : ℕ) {a b : ℕ} → (before ≡ 0 → a ≡ b) → first_of before a ≡ first_of before b
+same_noted before {a} {b} h = by_test (eqb before 0) refl
+  where
+    by_test : (t : Bool) → eqb before 0 ≡ t → cond t a before ≡ cond t b before
+    by_test true e = h (eqb-true before 0 e)
+    by_test false e = refl
