@@ -11,14 +11,14 @@ use registers::flag;
 pub(crate) fn signed(byte: u8) -> i32
     ensures { result ≡ signed byte }
 {
-    (std::num::wrapping_add_u8(byte, 128) as i32) - 128
+    (byte.wrapping_add(128) as i32) - 128
 }
 
 // Whether a signed number lies outside what a byte holds.
 pub(crate) fn outside(sum: i32) -> bool
     ensures { result ≡ outside sum }
 {
-    if sum < -128 { true } else { 127 < sum }
+    sum < -128 || 127 < sum
 }
 
 // V: the signed sum does not fit a byte. That of a difference is that of the sum with the complement.

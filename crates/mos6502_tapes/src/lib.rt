@@ -8,6 +8,8 @@ ghost use Rattle.tape_moving.specs.Moving.{tape_to_hex, hex_to_tape};
 ghost use Rattle.tape_punching.specs.Punching.{tape_into};
 ghost use Rattle.tape_rescuing.specs.Rescuing.{rescued};
 
+use tape_loading::number_and_reach;
+
 // Reads a tape onto a memory.
 #[unsafe(no_mangle)]
 pub extern "C" fn mos6502_tape_load(
@@ -19,10 +21,10 @@ pub extern "C" fn mos6502_tape_load(
     ensures { record { answer = result; good = good.new; place = place.new; memory = memory.new }
         ≡ read_tape text.now memory.old }
 {
-    let verdict = tape_loading::read_tape(text, memory);
-    *good = verdict.good;
-    *place = verdict.place;
-    verdict.answer
+    let (answer, reach) = number_and_reach(tape_loading::read_tape(text, memory));
+    *good = reach.good;
+    *place = reach.place;
+    answer
 }
 
 // Reads Intel HEX onto a memory.
@@ -36,10 +38,10 @@ pub extern "C" fn mos6502_hex_load(
     ensures { record { answer = result; good = good.new; place = place.new; memory = memory.new }
         ≡ read_hex text.now memory.old }
 {
-    let verdict = tape_loading::read_hex(text, memory);
-    *good = verdict.good;
-    *place = verdict.place;
-    verdict.answer
+    let (answer, reach) = number_and_reach(tape_loading::read_hex(text, memory));
+    *good = reach.good;
+    *place = reach.place;
+    answer
 }
 
 // Moves a tape to Intel HEX.
@@ -60,11 +62,11 @@ pub extern "C" fn mos6502_tape_to_hex(
     }
         ≡ tape_to_hex text.now out.old }
 {
-    let moved = tape_moving::tape_to_hex(text, out);
-    *size = moved.size;
-    *good = moved.verdict.good;
-    *place = moved.verdict.place;
-    moved.verdict.answer
+    let (answer, length, reach) = tape_moving::numbers_of(tape_moving::tape_to_hex(text, out));
+    *size = length;
+    *good = reach.good;
+    *place = reach.place;
+    answer
 }
 
 // Moves Intel HEX to a tape.
@@ -85,11 +87,11 @@ pub extern "C" fn mos6502_hex_to_tape(
     }
         ≡ hex_to_tape text.now out.old }
 {
-    let moved = tape_moving::hex_to_tape(text, out);
-    *size = moved.size;
-    *good = moved.verdict.good;
-    *place = moved.verdict.place;
-    moved.verdict.answer
+    let (answer, length, reach) = tape_moving::numbers_of(tape_moving::hex_to_tape(text, out));
+    *size = length;
+    *good = reach.good;
+    *place = reach.place;
+    answer
 }
 
 // Punches a stretch of memory.
@@ -104,9 +106,11 @@ pub extern "C" fn mos6502_tape_punch(
     ensures { record { answer = result; size = size.new; buffer = text.new }
         ≡ tape_into memory.now first last text.old }
 {
-    let delivery = tape_punching::punch(memory, first, last, text);
-    *size = delivery.size;
-    delivery.answer
+    let (answer, length) = text_writing::numbers_of(tape_punching::punch(
+        memory, first, last, text,
+    ));
+    *size = length;
+    answer
 }
 
 // Saves what is good of a torn tape.
@@ -129,12 +133,12 @@ pub extern "C" fn mos6502_tape_rescue(
     }
         ≡ rescued text.now out.old }
 {
-    let rescued = tape_rescuing::rescue(text, out);
+    let (answer, rescued) = tape_rescuing::numbers_of(tape_rescuing::rescue(text, out));
     *size = rescued.size;
-    *kept = rescued.kept;
-    *dropped = rescued.dropped;
-    *first = rescued.first;
-    rescued.answer
+    *kept = rescued.tally.kept;
+    *dropped = rescued.tally.dropped;
+    *first = rescued.tally.first;
+    answer
 }
 
 // The version of these functions. A host asks for it by this name, so that an older archive does not link, and the linker says

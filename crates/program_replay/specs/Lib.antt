@@ -1,4 +1,5 @@
 pub mod Comparison
 pub mod SameBytes
 pub mod Verdicts
+pub mod Inner
 pub mod Lemmas

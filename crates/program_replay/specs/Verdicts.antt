@@ -27,9 +27,10 @@ well_formed before m =
 unfoldable pub zeros : List ℕ
 zeros = replicate 65536 0
 
--- a line, with the memory before its step and the memory after
+-- a line, the place after it, the memory before its step and the memory after
 pub record Lined : Type 0 where
   pub line : Line
+  pub next : ℕ
   pub memory : List ℕ
   pub expected : List ℕ
 
@@ -41,7 +42,8 @@ line_at s at =
     let after = state_at s (mark_at 32 s (bar_at s loaded.0)) in
     let stored = loaded_from most_cells s (bar_at s after.next) loaded.1 in
     record {
-      line = record { before = before; after = after; next = end_at s stored.0 };
+      line = record { before = before; after = after };
+      next = end_at s stored.0;
       memory = loaded.1;
       expected = stored.1;
     }
@@ -49,7 +51,7 @@ line_at s at =
 -- the definition's step from the state and the memory before, against those after
 unfoldable pub verdict_on : Lined → Verdict
 verdict_on l =
-    cond (eqb l.line.next nowhere) Verdict.Malformed
+    cond (eqb l.next nowhere) Verdict.Malformed
     (cond (well_formed l.line.before l.memory)
     (judged (exec (step (length l.memory) (lines_at l.line.before) (machine_at l.line.before)) l.memory) (lines_at l.line.before)
     l.line.after l.expected)

@@ -6,12 +6,13 @@ ghost use Rattle.program_replay.specs.Comparison.{machine_at, lines_at, levels_b
 
 use cpu_record::step_by_record;
 use manual::{Lines, Machine};
+use memory::Memory;
 use mos6502_numbers::lines_from;
 use registers::{Registers, Status, flag};
 use replay_list::State;
 
 // The first field in which a step and its text line differ.
-#[derive(Drop)]
+#[derive(Clone, Copy, PartialEq, Eq)]
 pub(crate) enum Verdict {
     Same,
     Malformed,
@@ -65,37 +66,30 @@ fn compare(machine: Machine, lines: Lines, state: State, same: bool) -> Verdict
 {
     let registers = machine.registers;
     if registers.counter != state.counter {
-        return Verdict::Counter;
+        Verdict::Counter
+    } else if registers.accumulator != state.accumulator {
+        Verdict::Accumulator
+    } else if registers.x != state.x {
+        Verdict::X
+    } else if registers.y != state.y {
+        Verdict::Y
+    } else if registers.stack.0 != state.stack {
+        Verdict::Stack
+    } else if registers.status.pushed() != state.status {
+        Verdict::Status
+    } else if machine.cycles != state.cycles {
+        Verdict::Cycles
+    } else if levels_byte(lines, machine.nmi) != state.levels {
+        Verdict::Levels
+    } else if same {
+        Verdict::Same
+    } else {
+        Verdict::Memory
     }
-    if registers.accumulator != state.accumulator {
-        return Verdict::Accumulator;
-    }
-    if registers.x != state.x {
-        return Verdict::X;
-    }
-    if registers.y != state.y {
-        return Verdict::Y;
-    }
-    if registers.stack.0 != state.stack {
-        return Verdict::Stack;
-    }
-    if registers.status.pushed() != state.status {
-        return Verdict::Status;
-    }
-    if machine.cycles != state.cycles {
-        return Verdict::Cycles;
-    }
-    if levels_byte(lines, machine.nmi) != state.levels {
-        return Verdict::Levels;
-    }
-    if same {
-        return Verdict::Same;
-    }
-    Verdict::Memory
 }
 
 // Whether two memories hold the same bytes.
-fn same(memory: &[u8], expected: &[u8]) -> bool
+fn same(memory: &Memory, expected: &Memory) -> bool
     ensures alike { result ≡ true → memory.now ≡ expected.now }
     ensures told { memory.now ≡ expected.now → result ≡ true }
 {
@@ -104,7 +98,7 @@ fn same(memory: &[u8], expected: &[u8]) -> bool
 
 // Makes the step by a lent record, and compares the answer, the machine and the whole memory after it.
 #[tactic(auto, unfolding(crate::specs::Comparison::judged))]
-pub(crate) fn judge(before: State, after: State, memory: &mut [u8], expected: &[u8]) -> Verdict
+pub(crate) fn judge(before: State, after: State, memory: &mut Memory, expected: &Memory) -> Verdict
     ensures { result
         ≡ judged
         (exec (step (length memory.old) (lines_at before) (machine_at before)) memory.old)
@@ -114,8 +108,7 @@ pub(crate) fn judge(before: State, after: State, memory: &mut [u8], expected: &[
 {
     let lines = lines_at(before);
     let stepped = step_by_record(machine_at(before), lines, memory);
-    let reason = stepped.reason;
-    if u8::from(reason) != after.number {
+    if u8::from(stepped.reason) != after.number {
         return Verdict::Answer;
     }
     compare(stepped.machine, lines, after, same(memory, expected))

@@ -17,12 +17,16 @@ ghost use Rattle.program_replay.specs.Verdicts.{faults, tally_of, replay_status}
 use compare::Verdict;
 use console::{Console, Done, hand_over, name_from, refuse};
 use line::replay_line;
+use manual::FULL_MEMORY;
 use replay_list::next_line;
 use statuses::{check_status, first_of};
-use text_writing::{put_decimal, put_text};
+use text_writing::Writer;
 
 mod compare; // compare.rt: one step against what a line says of it
 mod line; // line.rt: one line
+
+// How many bytes of a list are read: one that has as many is too long.
+const LIST_ROOM: usize = 2097152;
 
 // How many lines there were, and how many of them differ.
 #[derive(Drop)]
@@ -31,48 +35,23 @@ struct Tally {
     differ: u64,
 }
 
-// A word for each verdict, with the end of the line; all are of one length, so that one write serves them.
-const SAME: [u8; 12] = *b"same       \n";
-
-const MALFORMED: [u8; 12] = *b"malformed  \n";
-
-const ANSWER: [u8; 12] = *b"answer     \n";
-
-const COUNTER: [u8; 12] = *b"counter    \n";
-
-const ACCUMULATOR: [u8; 12] = *b"accumulator\n";
-
-const X: [u8; 12] = *b"x          \n";
-
-const Y: [u8; 12] = *b"y          \n";
-
-const STACK: [u8; 12] = *b"stack      \n";
-
-const STATUS: [u8; 12] = *b"status     \n";
-
-const CYCLES: [u8; 12] = *b"cycles     \n";
-
-const LEVELS: [u8; 12] = *b"levels     \n";
-
-const MEMORY: [u8; 12] = *b"memory     \n";
-
-// The word for a verdict. The ensures gives only the length, which lending the array as a slice needs.
-fn word_of(verdict: Verdict) -> [u8; 12]
-    ensures { 12 ≡ length result }
+// The word for a verdict, with the end of the line; all are of one length.
+fn word_of(verdict: Verdict) -> &'static [u8]
+    ensures { length result.now ≡ 12 }
 {
     match verdict {
-        Verdict::Same => SAME,
-        Verdict::Malformed => MALFORMED,
-        Verdict::Answer => ANSWER,
-        Verdict::Counter => COUNTER,
-        Verdict::Accumulator => ACCUMULATOR,
-        Verdict::X => X,
-        Verdict::Y => Y,
-        Verdict::Stack => STACK,
-        Verdict::Status => STATUS,
-        Verdict::Cycles => CYCLES,
-        Verdict::Levels => LEVELS,
-        Verdict::Memory => MEMORY,
+        Verdict::Same => b"same       \n",
+        Verdict::Malformed => b"malformed  \n",
+        Verdict::Answer => b"answer     \n",
+        Verdict::Counter => b"counter    \n",
+        Verdict::Accumulator => b"accumulator\n",
+        Verdict::X => b"x          \n",
+        Verdict::Y => b"y          \n",
+        Verdict::Stack => b"stack      \n",
+        Verdict::Status => b"status     \n",
+        Verdict::Cycles => b"cycles     \n",
+        Verdict::Levels => b"levels     \n",
+        Verdict::Memory => b"memory     \n",
     }
 }
 
@@ -88,52 +67,36 @@ fn tell(console: &mut Console, line: u64, verdict: Verdict) -> u64
     ensures upper_bound { result ≤ 1 }
     ensures failure_stays { FailureStays console.old.failed console.new.failed }
 {
-    if let Verdict::Same = verdict {
+    if verdict == Verdict::Same {
         return 0;
     }
     let mut text = [0u8; LONGEST_DIFFERENCE];
-    let after_word = put_text(&mut text, 0, b"line ");
-    let after_line = put_decimal(&mut text, after_word, line);
-    let after_colon = put_text(&mut text, after_line, b": ");
-    let word = word_of(verdict);
-    let size = put_text(&mut text, after_colon, &word);
+    let mut out = Writer::new(&mut text);
+    out.put_text(b"line ");
+    out.put_decimal(line);
+    out.put_text(b": ");
+    out.put_text(word_of(verdict));
+    let size = out.place();
     console.write_output(&text[..size]);
     1
-}
-
-// A memory of zeros. The ensures gives only the length, which lending the array as a slice needs.
-fn memory_buffer() -> [u8; 65536]
-    ensures { 65536 ≡ length result }
-{
-    [0; 65536]
 }
 
 fn replay(console: &mut Console, text: &[u8]) -> Tally
     ensures value { result ≡ tally_of text.now }
     ensures failure_stays { FailureStays console.old.failed console.new.failed }
 {
-    let mut memory = memory_buffer();
-    let mut expected = memory_buffer();
-    let mut at: usize = 0;
-    let mut lines: u64 = 0;
-    let mut differ: u64 = 0;
+    let mut memory = [0; FULL_MEMORY];
+    let mut expected = [0; FULL_MEMORY];
+    let mut at = 0;
+    let mut lines = 0;
+    let mut differ = 0;
     while at < text.len() {
         lines += 1;
         let verdict = replay_line(text, at, &mut memory, &mut expected);
         differ += tell(console, lines, verdict);
         at = next_line(text, at);
     }
-    Tally {
-        lines: lines,
-        differ: differ,
-    }
-}
-
-// Room for the list. The ensures gives only the length, which lending the array as a slice needs.
-fn list_buffer() -> [u8; 2097152]
-    ensures { 2097152 ≡ length result }
-{
-    [0; 2097152]
+    Tally { lines, differ }
 }
 
 // The last line, and the status.
@@ -142,12 +105,21 @@ fn conclude(console: &mut Console, tally: Tally) -> u8
     ensures failure_stays { FailureStays console.old.failed console.new.failed }
 {
     let mut text = [0u8; LONGEST_TALLY];
-    let after_lines = put_decimal(&mut text, 0, tally.lines);
-    let after_words = put_text(&mut text, after_lines, b" steps replayed, ");
-    let after_differ = put_decimal(&mut text, after_words, tally.differ);
-    let size = put_text(&mut text, after_differ, b" differ\n");
+    let mut out = Writer::new(&mut text);
+    out.put_decimal(tally.lines);
+    out.put_text(b" steps replayed, ");
+    out.put_decimal(tally.differ);
+    out.put_text(b" differ\n");
+    let size = out.place();
     console.write_output(&text[..size]);
     first_of(console.failed, check_status(tally.lines, tally.differ))
+}
+
+// Room for the list. The ensures gives only the length, which lending the array as a slice needs.
+fn list_buffer() -> [u8; 2097152]
+    ensures { 2097152 ≡ length result }
+{
+    [0; LIST_ROOM]
 }
 
 // Makes the steps of a list again, and answers the status. One that fills its buffer is too long.
@@ -155,7 +127,7 @@ fn replay_list(console: &mut Console, index: usize, text: &[u8]) -> u8
     ensures value { result ≡ first_of console.new.failed (replay_status text.now) }
     ensures failure_stays { FailureStays console.old.failed console.new.failed }
 {
-    if text.len() == 2097152 {
+    if text.len() == LIST_ROOM {
         console.say_of(index, b"refused: the list is too long\n");
         return first_of(console.failed, 1);
     }
@@ -171,15 +143,12 @@ fn replay_argument(console: &mut Console, index: usize, input: &mut [u8]) -> Don
     let size = console.read_input(index, input);
     if console.failed != 0 {
         return Done {
-            size: size,
+            size,
             status: console.failed,
         };
     }
     let status = replay_list(console, index, &input[..size]);
-    Done {
-        size: size,
-        status: status,
-    }
+    Done { size, status }
 }
 
 fn replay_by_arguments(rt: HostRuntime) -> u8 {

@@ -1,9 +1,10 @@
 -- What is saved of a torn tape: every good data record, wherever it begins, in order. A good record has no `;` but its first character, so
 -- the search goes on at the next character, whatever stood there.
-use Rattle.std.specs.Prelude.{ℕ, suc, cond, List, [], ◌∷◌, eqb, ltb, length}
+use Rattle.std.specs.Prelude.{ℕ, suc, cond, List, [], ◌∷◌, eqb, ltb, length, Result, Ok, Err}
 use Rattle.std.proofs.Math.Option.{Option, none, some}
 use Rattle.std.proofs.lemmas.List.Edits.{sets}
-use Rattle.laws.specs.Answers.{not_refused, malformed_record, no_end, no_room}
+use Rattle.laws.specs.Answers.{not_refused, malformed_record, no_end, no_room, answer_of}
+use Rattle.laws.specs.declared.answers.Refusal.{Refusal}
 use Rattle.tape_records.specs.Records.{record_of, address}
 use Rattle.tape_records.specs.Contents.{Stretch, Item, stretch, finish, bad}
 use Rattle.tape_paper.specs.Tapes.{judge}
@@ -40,10 +41,40 @@ pub record Outcome : Type 0 where
   pub first : ℕ
   pub buffer : List ℕ
 
--- what the code answers, and the buffer that it leaves
-abbrev pub with_text : Rescued → List ℕ → Outcome
+-- the answer's number, and the other numbers, of what the code answers
+abbrev pub numbers_of : Result Rescued Refusal → ℕ × Rescued
+numbers_of (Ok r) = (not_refused, r)
+numbers_of (Err refusal) = (answer_of refusal, record { size = 0; tally = record { kept = 0; dropped = 0; first = 0 } })
+
+-- the same as one report
+pub record Report : Type 0 where
+  pub answer : ℕ
+  pub size : ℕ
+  pub kept : ℕ
+  pub dropped : ℕ
+  pub first : ℕ
+
+abbrev pub report_of : Result Rescued Refusal → Report
+report_of r =
+    record {
+      answer = (numbers_of r).0;
+      size = (numbers_of r).1.size;
+      kept = (numbers_of r).1.tally.kept;
+      dropped = (numbers_of r).1.tally.dropped;
+      first = (numbers_of r).1.tally.first;
+    }
+
+-- and with the buffer that it leaves
+abbrev pub with_text : Result Rescued Refusal → List ℕ → Outcome
 with_text r buffer =
-    record { answer = r.answer; size = r.size; kept = r.kept; dropped = r.dropped; first = r.first; buffer = buffer }
+    record {
+      answer = (report_of r).answer;
+      size = (report_of r).size;
+      kept = (report_of r).kept;
+      dropped = (report_of r).dropped;
+      first = (report_of r).first;
+      buffer = buffer;
+    }
 
 abbrev pub refused : ℕ → List ℕ → Outcome
 refused answer buffer = record { answer = answer; size = 0; kept = 0; dropped = 0; first = 0; buffer = buffer }

@@ -1,9 +1,10 @@
 -- What a rescue saved, in a sentence.
-use Rattle.std.specs.Prelude.{ℕ, cond, List, ◌++◌, eqb}
-use Rattle.laws.specs.Answers.{not_refused, no_end, no_room}
+use Rattle.std.specs.Prelude.{ℕ, cond, List, ◌++◌, eqb, Option, Some, None}
+use Rattle.laws.specs.Answers.{not_refused, no_end, no_room, answer_of}
 use Rattle.laws.specs.Characters.{characters}
 use Rattle.text_writing.specs.Numerals.{decimal}
-use Rattle.tape_rescuing.specs.declared.Rescued.{Rescued}
+use Rattle.laws.specs.declared.answers.Refusal.{Refusal}
+use Rattle.tape_rescuing.specs.Rescuing.{Report}
 
 abbrev pub kept_records : ℕ → List ℕ
 kept_records kept = decimal kept ++ cond (eqb kept 1) (characters " record is kept") (characters " records are kept")
@@ -19,8 +20,13 @@ lost_sentence kept dropped first =
     characters "torn: " ++ kept_records kept ++ characters ", " ++ decimal dropped ++ characters " dropped, the first after " ++ decimal first
     ++ characters " characters\n"
 
--- `read` is what a reader answers to the old tape
-unfoldable pub sentence : Rescued → ℕ → List ℕ
+-- what a reader answers to the old tape, by why it refuses it, if it does
+abbrev pub read_answer : Option Refusal → ℕ
+read_answer None = not_refused
+read_answer (Some reason) = answer_of reason
+
+-- `read` is that answer
+unfoldable pub sentence : Report → ℕ → List ℕ
 sentence r read =
     cond (eqb r.answer no_end) (characters "refused: more than 65535 records could be kept\n")
     (cond (eqb r.answer no_room) (characters "refused: what could be kept is longer than the buffer\n")

@@ -1,72 +1,77 @@
 // What a rescue saved, in words.
 ghost use Rattle.std.specs.Prelude.{◌+◌, ◌≤◌};
-ghost use Rattle.text_writing.specs.Written.{Wrote};
-ghost use Rattle.tape_rescuing.specs.Sentence.{kept_records, kept_sentence, lost_sentence, sentence, longest_sentence};
+ghost use Rattle.text_writing.specs.Written.{Writes};
+ghost use Rattle.tape_rescuing.specs.Rescuing.{report_of};
+ghost use Rattle.tape_rescuing.specs.Sentence.{read_answer, kept_records, kept_sentence, lost_sentence, sentence, longest_sentence};
 
-use crate::Rescued;
-use laws::answers::*;
-use text_writing::{put_decimal, put_text};
+use crate::{Rescued, Tally};
+use laws::answers::Refusal;
+use text_writing::Writer;
 
 // The most characters that the sentence has.
 pub const LONGEST_SENTENCE: usize = 128;
 
-fn put_kept_records(out: &mut [u8], at: usize, kept: u64) -> usize
-    ensures { Wrote out.old at (kept_records kept) out.new result }
+fn put_kept_records(out: &mut Writer, kept: u64)
+    ensures { Writes out.old (kept_records kept) out.new }
 {
-    let after_kept = put_decimal(out, at, kept);
+    out.put_decimal(kept);
     if kept == 1 {
-        return put_text(out, after_kept, b" record is kept");
+        out.put_text(b" record is kept");
+    } else {
+        out.put_text(b" records are kept");
     }
-    put_text(out, after_kept, b" records are kept")
 }
 
-fn put_none_dropped(out: &mut [u8], at: usize, kept: u64, read: u8) -> usize
-    ensures wrote { Wrote out.old at (kept_sentence kept read) out.new result }
-    ensures upper_bound { result ≤ at + longest_sentence }
+fn put_none_dropped(out: &mut Writer, kept: u64, read: Option<Refusal>)
+    ensures wrote { Writes out.old (kept_sentence kept (read_answer read)) out.new }
+    ensures upper_bound { out.new.at ≤ out.old.at + longest_sentence }
 {
-    if read == NOT_REFUSED {
-        let after_nothing = put_text(out, at, b"nothing was dropped: ");
-        let after_records = put_kept_records(out, after_nothing, kept);
-        return put_text(out, after_records, b"\n");
+    match read {
+        None => {
+            out.put_text(b"nothing was dropped: ");
+            put_kept_records(out, kept);
+            out.put_text(b"\n");
+        }
+        Some(_) => {
+            put_kept_records(out, kept);
+            out.put_text(b"; something between records may have been one, or one is missing\n");
+        }
     }
-    let after_kept = put_kept_records(out, at, kept);
-    put_text(
-        out,
-        after_kept,
-        b"; something between records may have been one, or one is missing\n",
-    )
 }
 
-fn put_lost(out: &mut [u8], at: usize, kept: u64, dropped: u64, first: usize) -> usize
-    ensures wrote { Wrote out.old at (lost_sentence kept dropped first) out.new result }
-    ensures upper_bound { result ≤ at + longest_sentence }
+fn put_lost(out: &mut Writer, tally: Tally)
+    ensures wrote { Writes out.old (lost_sentence tally.kept tally.dropped tally.first) out.new }
+    ensures upper_bound { out.new.at ≤ out.old.at + longest_sentence }
 {
-    let after_torn = put_text(out, at, b"torn: ");
-    let after_kept = put_kept_records(out, after_torn, kept);
-    let after_records = put_text(out, after_kept, b", ");
-    let after_dropped = put_decimal(out, after_records, dropped);
-    let after_lost = put_text(out, after_dropped, b" dropped, the first after ");
-    let after_first = put_decimal(out, after_lost, first as u64);
-    put_text(out, after_first, b" characters\n")
+    out.put_text(b"torn: ");
+    put_kept_records(out, tally.kept);
+    out.put_text(b", ");
+    out.put_decimal(tally.dropped);
+    out.put_text(b" dropped, the first after ");
+    out.put_decimal(tally.first as u64);
+    out.put_text(b" characters\n");
 }
 
-// Writes the sentence. `read` is what a reader answers to the old tape.
-pub fn put_sentence(out: &mut [u8], at: usize, rescued: Rescued, read: u8) -> usize
-    ensures wrote { Wrote out.old at (sentence rescued read) out.new result }
-    ensures upper_bound { result ≤ at + longest_sentence }
+// Writes the sentence. `read` is why a reader refuses the old tape, if it does.
+pub fn put_sentence(out: &mut Writer, rescued: Result<Rescued, Refusal>, read: Option<Refusal>)
+    ensures wrote { Writes out.old (sentence (report_of rescued) (read_answer read)) out.new }
+    ensures upper_bound { out.new.at ≤ out.old.at + longest_sentence }
 {
-    if rescued.answer == NO_END {
-        return put_text(out, at, b"refused: more than 65535 records could be kept\n");
+    match rescued {
+        Ok(rescued) => {
+            if rescued.tally.dropped == 0 {
+                put_none_dropped(out, rescued.tally.kept, read);
+            } else {
+                put_lost(out, rescued.tally);
+            }
+        }
+        Err(refusal) => match refusal {
+            Refusal::NoEnd => out.put_text(b"refused: more than 65535 records could be kept\n"),
+            Refusal::NoRoom => {
+                out.put_text(b"refused: what could be kept is longer than the buffer\n")
+            }
+            // a rescue is refused for no other reason
+            _ => put_none_dropped(out, 0, read),
+        },
     }
-    if rescued.answer == NO_ROOM {
-        return put_text(
-            out,
-            at,
-            b"refused: what could be kept is longer than the buffer\n",
-        );
-    }
-    if rescued.dropped == 0 {
-        return put_none_dropped(out, at, rescued.kept, read);
-    }
-    put_lost(out, at, rescued.kept, rescued.dropped, rescued.first)
 }

@@ -7,10 +7,12 @@ pub slice_bounds-text-end : goal.slice_bounds-text-end
 slice_bounds-text-end c =
     omega (
       arith,
-      c.put_text-size.ensures.ends,
-      c.put_decimal-after_differ.ensures.ends,
-      c.put_text-after_words.ensures.ends,
-      c.put_decimal-after_lines.ensures.ends,
+      c.place-size.ensures,
+      c.put_text-2.ensures.wrote.ends,
+      c.put_decimal-2.ensures.wrote.ends,
+      c.put_text.ensures.wrote.ends,
+      c.put_decimal.ensures.wrote.ends,
+      c.new-out.ensures.begins,
       decimal_length 19 c.args.tally.lines (omega (arith, c)),
       decimal_length 19 c.args.tally.differ (omega (arith, c)),
     )
@@ -19,10 +21,12 @@ pub slice_bounds-write_output-end : goal.slice_bounds-write_output-end
 slice_bounds-write_output-end c =
     sym (length-take-le _ _ (omega (
       arith,
-      c.put_text-size.ensures.ends,
-      c.put_decimal-after_differ.ensures.ends,
-      c.put_text-after_words.ensures.ends,
-      c.put_decimal-after_lines.ensures.ends,
+      c.place-size.ensures,
+      c.put_text-2.ensures.wrote.ends,
+      c.put_decimal-2.ensures.wrote.ends,
+      c.put_text.ensures.wrote.ends,
+      c.put_decimal.ensures.wrote.ends,
+      c.new-out.ensures.begins,
       decimal_length 19 c.args.tally.lines (omega (arith, c)),
       decimal_length 19 c.args.tally.differ (omega (arith, c)),
     )))

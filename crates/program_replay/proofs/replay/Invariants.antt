@@ -7,9 +7,9 @@ use Rattle.program_replay.proofs.replay.Given as goal
 
 abbrev pub invariant-loop-at : goal.invariant-loop-at
 invariant-loop-at l =
-    (l.lines ≤ l.at) × (l.differ ≤ l.lines) × (length l.memory ≡ 65536) × (length l.expected ≡ 65536)
+    (l.lines ≤ l.at) × (l.differ ≤ l.lines)
     × (tally_of l.text ≡ tally_from (length l.text - l.lines) l.text l.at l.lines l.differ)
-    × FailureStays l.initial.failed l.failed
+    × FailureStays l.initial.console.failed l.console.failed
 
 abbrev pub decreases-loop-at : goal.decreases-loop-at
 decreases-loop-at l = length l.text - l.at

@@ -1,55 +1,71 @@
--- Laws for the proofs of the code: one more byte cleared, the fields of a text line in the order in which they are read,
--- and one more text line counted.
+-- Laws for the proofs of the code: the parts of a text line in the order in which they are read, and one more text line counted.
 use Prim.Native.Nat.{ℕ, zero, suc, ◌+◌, ◌-◌, ◌<◌, ◌≤◌}
-use Rattle.std.specs.Prelude.{◌≡◌, set, take, replicate}
+use Rattle.std.specs.Prelude.{◌≡◌, replicate}
 use Rattle.std.proofs.Math.Path.{refl, ap}
-use Rattle.std.proofs.Common.{sym, ◌∙◌, add-one, take_all, take-suc-set}
+use Rattle.std.proofs.Common.{sym, ◌∙◌, eq-eqb}
 use mathlib.Core.List.{List}
 use native.Mathlib.Omega.{arith}
 use Rattle.std.proofs.Math.ListN.{length}
-use Rattle.std.proofs.lemmas.List.{replicate-append-replicate}
 use borrow.Author.Tests.{lt-ltb, le-ltb}
-use Rattle.replay_list.specs.declared.State.{State}
-use Rattle.text_reading.specs.Numbers.{mark_at}
+use Rattle.text_reading.specs.Numbers.{nowhere, mark_at}
+use Rattle.text_reading.specs.Lemmas.Found.{lost_mark}
+use Rattle.replay_list.specs.Lemmas.Lost.{lost_state, lost_bar, lost_loaded}
 use Rattle.replay_list.specs.Lines.{state_at, bar_at, loaded_from, most_cells, line_after}
-use Rattle.program_replay.specs.Verdicts.{zeros, end_at, line_at, line_verdict, faults, tally_from, tally_of}
-
-pub clear_more : (m : List ℕ) (i : ℕ) → i < length m → take i m ≡ replicate i 0 → take (i + 1) (set m i 0) ≡ replicate (i + 1) 0
-clear_more m i below so_far =
-    rw (add-one i) (take-suc-set m i 0 below ∙ rw so_far (replicate-append-replicate i 1 0 ∙ ap (λ (n : ℕ). replicate n 0) (add-one i)))
-
-pub cleared : (m : List ℕ) (i n : ℕ) → length m ≤ i → i ≤ length m → length m ≡ n → take i m ≡ replicate i 0 → m ≡ replicate n 0
-cleared m i n high low e all =
-    let whole : i ≡ n = omega arith in
-    sym (take_all i m high) ∙ all ∙ ap (λ (k : ℕ). replicate k 0) whole
+use Rattle.program_replay.specs.Verdicts.{zeros, end_at, line_verdict, faults, tally_from, tally_of}
 
 pub zeroed : {m : List ℕ} {n : ℕ} → m ≡ replicate n 0 → n ≡ 65536 → m ≡ zeros
 unfolding zeros
 zeroed e h = e ∙ ap (λ (k : ℕ). replicate k 0) h
 
-module _ (s : List ℕ) (at : ℕ) where
-  pub line_read : {second : ℕ} {before after : State} {list bar more loaded again stored end : ℕ} {z₁ z₂ m e₁ e₂ : List ℕ}
-      → z₁ ≡ zeros
-      → z₂ ≡ zeros
-      → before ≡ state_at s at
-      → list ≡ bar_at s before.next
-      → loaded_from most_cells s list z₂ ≡ (again, e₁)
-      → loaded_from most_cells s list z₁ ≡ (loaded, m)
-      → bar ≡ bar_at s loaded
-      → second ≡ mark_at 32 s bar
-      → after ≡ state_at s second
-      → more ≡ bar_at s after.next
-      → loaded_from most_cells s more e₁ ≡ (stored, e₂)
-      → end ≡ end_at s stored
-      → line_at s at
-      ≡ record { line = record { before = before; after = after; next = end }; memory = m; expected = e₂ }
-  unfolding line_at
-  line_read {m = m} {e₁ = e₁} z₁ z₂ b l x y r g a n w d =
-      let x' = rw z₂ at x in
-      let y' = rw z₁ at y in
-      let same : e₁ ≡ m = ap (λ (p : ℕ × List ℕ). p.1) (sym x' ∙ y') in
-      let w' = rw same at w in
-      rw (← b, ← l, y', ← r, ← g, ← a, ← n, w', ← d)
+-- both memories are loaded from the first list
+pub same_list : (s : List ℕ) (list : ℕ) {z₁ z₂ m e : List ℕ} {loaded again : ℕ} → z₁ ≡ zeros → z₂ ≡ zeros
+    → loaded_from most_cells s list z₂ ≡ (again, e)
+    → loaded_from most_cells s list z₁ ≡ (loaded, m)
+    → (loaded_from most_cells s list zeros ≡ (loaded, m)) × (e ≡ m)
+same_list s list z₁ z₂ x y =
+    let x' = rw z₂ at x in
+    let y' = rw z₁ at y in
+    (y', ap (λ (p : ℕ × List ℕ). p.1) (sym x' ∙ y'))
+
+-- a line that ends early ends nowhere: its end, from the place after each part on
+module _ (s : List ℕ) where
+  abbrev end_stored : ℕ → List ℕ → ℕ
+  end_stored p m = end_at s (loaded_from most_cells s p m).0
+
+  abbrev end_after : ℕ → List ℕ → ℕ
+  end_after p m = end_stored (bar_at s p) m
+
+  abbrev end_mark : ℕ → List ℕ → ℕ
+  end_mark p m = end_after (state_at s p).next m
+
+  abbrev end_bar : ℕ → List ℕ → ℕ
+  end_bar p m = end_mark (mark_at 32 s p) m
+
+  abbrev end_list : ℕ → ℕ
+  end_list p = end_bar (bar_at s (loaded_from most_cells s p zeros).0) (loaded_from most_cells s p zeros).1
+
+module _ (s : List ℕ) (fits : length s ≤ nowhere) where
+  lost_end : (p : ℕ) → p ≡ nowhere → end_at s p ≡ nowhere
+  unfolding end_at
+  lost_end p lost = rw (eq-eqb _ nowhere (lost_mark s fits 10 p lost)) (lost_mark s fits 10 _ (lost_mark s fits 32 p lost))
+
+  pub after_more : (p : ℕ) (m : List ℕ) → p ≡ nowhere → end_stored s p m ≡ nowhere
+  after_more p m lost = lost_end _ (lost_loaded s fits most_cells p m lost)
+
+  pub after_after : (p : ℕ) (m : List ℕ) → p ≡ nowhere → end_after s p m ≡ nowhere
+  after_after p m lost = after_more _ m (lost_bar s fits p lost)
+
+  pub after_mark : (p : ℕ) (m : List ℕ) → p ≡ nowhere → end_mark s p m ≡ nowhere
+  after_mark p m lost = after_after _ m (lost_state s fits p lost)
+
+  pub after_bar : (p : ℕ) (m : List ℕ) → p ≡ nowhere → end_bar s p m ≡ nowhere
+  after_bar p m lost = after_mark _ m (lost_mark s fits 32 p lost)
+
+  pub after_list : (p : ℕ) → p ≡ nowhere → end_list s p ≡ nowhere
+  after_list p lost = after_bar _ _ (lost_bar s fits _ (lost_loaded s fits most_cells p zeros lost))
+
+  pub after_before : (p : ℕ) → p ≡ nowhere → end_list s (bar_at s p) ≡ nowhere
+  after_before p lost = after_list _ (lost_bar s fits p lost)
 
 pub tally_start : (s : List ℕ) → tally_of s ≡ tally_from (length s - 0) s 0 0 0
 unfolding tally_of

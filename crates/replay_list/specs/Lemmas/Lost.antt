@@ -1,12 +1,12 @@
 -- A state or a cell whose fields end early ends nowhere.
-use Rattle.std.specs.Prelude.{ℕ, ◌≤◌, ◌≡◌, List, length, Some, None}
+use Rattle.std.specs.Prelude.{ℕ, zero, suc, ◌≤◌, ◌≡◌, List, length, Some, None}
 use Rattle.std.proofs.Common.{sym, eq-eqb, ne_eqb, eqb-true}
 use Rattle.std.proofs.lemmas.Bool.{eqb-false}
 use Rattle.text_reading.specs.Numbers.{nowhere, word_at, count_at, mark_at}
 use Rattle.text_reading.specs.Lemmas.Found.{none_by, some_by, lost_byte, lost_word, lost_count, lost_mark}
 use Rattle.replay_list.specs.declared.State.{State}
 use Rattle.replay_list.specs.declared.Cell.{Cell}
-use Rattle.replay_list.specs.Lines.{spaced_byte_at, state_found}
+use Rattle.replay_list.specs.Lines.{spaced_byte_at, state_at, state_found, cell_at, bar_at, loaded_from}
 use Rattle.replay_list.specs.Inner.Cells.{cell_found}
 
 module _ (s : State) where
@@ -111,8 +111,25 @@ module _ (s : List ℕ) (fits : length s ≤ nowhere) where
   pub after_number : (p : ℕ) → p ≡ nowhere → end_number s p ≡ nowhere
   after_number p lost = after_levels _ (lost_spaced p lost)
 
+  pub lost_state : (p : ℕ) → p ≡ nowhere → (state_at s p).next ≡ nowhere
+  unfolding state_at
+  lost_state p lost = after_number _ (lost_byte s fits p lost)
+
+  pub lost_bar : (p : ℕ) → p ≡ nowhere → bar_at s p ≡ nowhere
+  unfolding bar_at
+  lost_bar p lost = lost_mark s fits 124 _ (lost_mark s fits 32 p lost)
+
   pub after_mark : (p : ℕ) → p ≡ nowhere → end_mark s p ≡ nowhere
   after_mark p lost = lost_word s fits p lost
 
   pub after_byte : (p : ℕ) → p ≡ nowhere → end_byte s p ≡ nowhere
   after_byte p lost = after_mark _ (lost_mark s fits 64 p lost)
+
+  pub lost_cell : (p : ℕ) → p ≡ nowhere → (cell_at s p).next ≡ nowhere
+  unfolding cell_at
+  lost_cell p lost = after_byte _ (lost_spaced p lost)
+
+  pub lost_loaded : (n p : ℕ) (m : List ℕ) → p ≡ nowhere → (loaded_from n s p m).0 ≡ nowhere
+  unfolding loaded_from
+  lost_loaded zero p m lost = lost
+  lost_loaded (suc n) p m lost = rw (eq-eqb (cell_at s p).next nowhere (lost_cell p lost)) lost

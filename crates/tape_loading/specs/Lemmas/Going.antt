@@ -6,9 +6,7 @@ use Rattle.std.proofs.Math.Bool.{true, false}
 use Rattle.std.proofs.Math.Option.{some}
 use Rattle.std.proofs.Math.Dec.{ltb}
 use Rattle.std.proofs.lemmas.List.Edits.{sets}
-use Rattle.laws.specs.declared.answers.Refusal.{Refusal}
-use Rattle.laws.specs.declared.answers.Refusal.TheVariants.{MemoryNotFull, NoCycleRoom, NotAnOpcode, BoundTooHigh, MalformedRecord, WrongSum, PastTheEnd, NoEnd, FirstAboveLast, NoRoom, MalformedEntry, StrayEntry, WouldRead, WouldStore, NotThere}
-use Rattle.laws.specs.Answers.{not_refused, malformed_record, no_end, answer_of}
+use Rattle.laws.specs.Answers.{not_refused, malformed_record, no_end}
 use Rattle.manual.specs.Stepping.{full_memory}
 use Rattle.text_reading.specs.Numbers.{nowhere, byte_at}
 use Rattle.tape_records.specs.Lemmas.Places.{byte_at_lem, next_byte, bytes_from_lem}
@@ -176,21 +174,3 @@ byte_there n s bs fits e i h few z =
     let next = rw first at (byte_at_lem s fits (2 * i)) in
     let end : 2 * i + 2 ≡ nowhere = rw next at z in
     omega arith
-
--- No refusal has the answer 0.
-pub never_good : (r : Refusal) → answer_of r ≡ not_refused → ⊥
-never_good MemoryNotFull z = omega arith
-never_good NoCycleRoom z = omega arith
-never_good NotAnOpcode z = omega arith
-never_good BoundTooHigh z = omega arith
-never_good MalformedRecord z = omega arith
-never_good WrongSum z = omega arith
-never_good PastTheEnd z = omega arith
-never_good NoEnd z = omega arith
-never_good FirstAboveLast z = omega arith
-never_good NoRoom z = omega arith
-never_good MalformedEntry z = omega arith
-never_good StrayEntry z = omega arith
-never_good WouldRead z = omega arith
-never_good WouldStore z = omega arith
-never_good NotThere z = omega arith

@@ -1,11 +1,14 @@
 -- A sentence is short.
-use Rattle.std.specs.Prelude.{ℕ, ◌+◌, ◌≤◌, ◌<◌, Bool, true, false, cond, List, ◌++◌, eqb, length}
+use Rattle.std.specs.Prelude.{ℕ, ◌+◌, ◌≤◌, ◌<◌, Bool, true, false, cond, List, ◌++◌, eqb, length, Err, ◌≡◌, refl}
 use Rattle.std.proofs.Common.{arith, length-append}
 use Rattle.laws.specs.Answers.{not_refused}
 use Rattle.laws.specs.Characters.{characters}
 use Rattle.text_writing.specs.Numerals.{decimal}
 use Rattle.text_writing.specs.Lemmas.Texts.{decimal_length}
-use Rattle.tape_rescuing.specs.Sentence.{kept_records, kept_sentence, lost_sentence, longest_sentence}
+use Rattle.tape_rescuing.specs.Sentence.{kept_records, kept_sentence, lost_sentence, sentence, longest_sentence}
+use Rattle.laws.specs.declared.answers.Refusal.{Refusal}
+use Rattle.laws.specs.declared.answers.Refusal.TheVariants.{MemoryNotFull, NoCycleRoom, NotAnOpcode, BoundTooHigh, MalformedRecord, WrongSum, PastTheEnd, NoEnd, FirstAboveLast, NoRoom, MalformedEntry, StrayEntry, WouldRead, WouldStore, NotThere}
+use Rattle.tape_rescuing.specs.Rescuing.{report_of}
 
 -- a part after another
 most : (s t : List ℕ) {a b : ℕ} → length s ≤ a → length t ≤ b → length (s ++ t) ≤ a + b
@@ -44,3 +47,22 @@ lost_length k d f k< d< f< =
     let h₄ = most three (characters " dropped, the first after ") {b = 26} h₃ (omega arith) in
     let h₅ = most four (decimal f) h₄ (number_length f f<) in
     omega (arith, most five (characters " characters\n") {b = 12} h₅ (omega arith))
+
+-- A rescue that is refused for another reason than its own two kept nothing.
+pub other_refusal : (r : Refusal) (read : ℕ) → (r ≡ NoEnd → ⊥) → (r ≡ NoRoom → ⊥) → sentence (report_of (Err r)) read ≡ kept_sentence 0 read
+unfolding sentence
+other_refusal MemoryNotFull read h k = refl
+other_refusal NoCycleRoom read h k = refl
+other_refusal NotAnOpcode read h k = refl
+other_refusal BoundTooHigh read h k = refl
+other_refusal MalformedRecord read h k = refl
+other_refusal WrongSum read h k = refl
+other_refusal PastTheEnd read h k = refl
+other_refusal NoEnd read h k = absurd (h refl)
+other_refusal FirstAboveLast read h k = refl
+other_refusal NoRoom read h k = absurd (k refl)
+other_refusal MalformedEntry read h k = refl
+other_refusal StrayEntry read h k = refl
+other_refusal WouldRead read h k = refl
+other_refusal WouldStore read h k = refl
+other_refusal NotThere read h k = refl

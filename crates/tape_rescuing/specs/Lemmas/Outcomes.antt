@@ -8,7 +8,10 @@ use Rattle.tape_records.specs.Contents.{Stretch}
 use Rattle.tape_records.specs.Grammar.{Fits, newline}
 use Rattle.tape_paper.specs.Grammar.{record_text, tape_text}
 use Rattle.tape_paper.specs.Lemmas.Lawful.{text_size}
-use Rattle.tape_rescuing.specs.declared.Pass.{Pass}
+use Rattle.text_writing.specs.Written.{Wrote}
+use Rattle.text_writing.specs.declared.Writer.{Writer}
+use Rattle.tape_records.specs.Lemmas.Writing.{from_start}
+use Rattle.tape_rescuing.specs.declared.Tally.{Tally}
 use Rattle.tape_rescuing.specs.Rescuing.{saved, Outcome, refused, restored, rescued}
 use Rattle.tape_rescuing.specs.Lemmas.Saved.{kept_fits}
 use Rattle.tape_rescuing.specs.Inner.Passing.{Passed}
@@ -26,35 +29,36 @@ text_length (r ∷ rs) k f =
       length-append (record_text r.first r.bytes) newline,
     )
 
-module _ (s buffer : List ℕ) {l l' : List ℕ} {measured : Pass} (first : Passed (saved 0 s) l l' measured) where
+module _ (s buffer : List ℕ) {w w' : Writer} {measured : Tally} (first : Passed (saved 0 s) w w' measured) where
   pub too_many : 65535 < measured.kept → refused no_end buffer ≡ rescued s buffer
   unfolding rescued
   too_many h = let many : 65535 < length (saved 0 s).records = omega (arith, first.keeps, h) in rw (lt-ltb 65535 (length (saved 0 s).records) many)
 
-  module _ (few : measured.kept ≤ 65535) where
+  module _ (start : w.at ≡ 0) (few : measured.kept ≤ 65535) where
     few_records : length (saved 0 s).records ≤ 65535
     few_records = omega (arith, first.keeps, few)
 
-    its_size : measured.size ≡ length (tape_text 0 (saved 0 s).records)
-    its_size = omega (arith, (first.writes (omega arith)).ends, text_length (saved 0 s).records 0 (kept_fits 0 s), few_records)
+    its_size : w'.at ≡ length (tape_text 0 (saved 0 s).records)
+    its_size = omega (arith, (first.writes (omega arith)).wrote.ends, text_length (saved 0 s).records 0 (kept_fits 0 s), few_records)
 
-    pub no_room_lem : length buffer < measured.size → refused no_room buffer ≡ rescued s buffer
+    pub no_room_lem : length buffer < w'.at → refused no_room buffer ≡ rescued s buffer
     unfolding rescued
     no_room_lem h =
         let short : length buffer < length (tape_text 0 (saved 0 s).records) = omega (arith, its_size, h) in
         rw (le-ltb 65535 (length (saved 0 s).records) few_records, lt-ltb (length buffer) (length (tape_text 0 (saved 0 s).records)) short)
 
-    pub all_written : measured.size ≤ length buffer → {buffer' : List ℕ} {p : Pass} → Passed (saved 0 s) buffer buffer' p
-        → record { answer = not_refused; size = p.size; kept = p.kept; dropped = p.dropped; first = p.first; buffer = buffer' } ≡ rescued s buffer
+    pub all_written : w'.at ≤ length buffer → {v v' : Writer} {p : Tally} → v.out.now ≡ buffer → v.at ≡ 0 → Passed (saved 0 s) v v' p
+        → {size : ℕ} {buffer' : List ℕ} → size ≡ v'.at → buffer' ≡ v'.out.now
+        → record { answer = not_refused; size = size; kept = p.kept; dropped = p.dropped; first = p.first; buffer = buffer' } ≡ rescued s buffer
     unfolding rescued
-    all_written h {buffer'} {p} pass =
+    all_written h {v} {v'} {p} same begins pass {size} {buffer'} sized left =
         let holds : length (tape_text 0 (saved 0 s).records) ≤ length buffer = omega (arith, its_size, h) in
-        let wrote = pass.writes (omega (arith, pass.keeps, few_records)) in
-        let size : p.size ≡ length (tape_text 0 (saved 0 s).records) = omega (arith, wrote.ends, wrote.fits, holds) in
+        let wrote : Wrote buffer 0 (tape_text 0 (saved 0 s).records) buffer' size = from_start same begins (pass.writes (omega (arith, pass.keeps, few_records))) sized left in
+        let long : size ≡ length (tape_text 0 (saved 0 s).records) = omega (arith, wrote.ends, wrote.fits, holds) in
         rw (
           le-ltb 65535 (length (saved 0 s).records) few_records,
           le-ltb (length buffer) (length (tape_text 0 (saved 0 s).records)) holds,
-          size,
+          long,
           pass.keeps,
           pass.drops,
           pass.begins,

@@ -1,12 +1,12 @@
 -- Laws of Passing.antt.
-use Rattle.std.specs.Prelude.{ℕ, ◌+◌, ◌*◌, ◌≤◌, ◌≡◌, refl, Bool, true, false, cond, List, [], ◌++◌, eqb, length, take, drop}
+use Rattle.std.specs.Prelude.{ℕ, ◌+◌, ◌*◌, ◌≤◌, ◌≡◌, refl, Bool, true, false, cond, List, [], ◌++◌, eqb, length, take, drop, Some, None}
 use Rattle.std.proofs.Common.{ap, sym, ◌∙◌, arith, length-append, take_at, ne_eqb, eqb-true}
 use Rattle.std.proofs.Math.Option.{Option, none, some}
 use Rattle.laws.specs.Answers.{malformed_record}
-use Rattle.text_writing.specs.Written.{Wrote}
-use Rattle.text_writing.specs.Lemmas.Left.{Left, less_left}
+use Rattle.text_writing.specs.Written.{Writes}
+use Rattle.text_writing.specs.declared.Writer.{Writer}
+use Rattle.tape_records.specs.Lemmas.Writing.{Left, less_left}
 use Rattle.tape_records.specs.declared.Parts.{Parts}
-use Rattle.tape_records.specs.declared.Found.TheVariants.{Record, Malformed}
 use Rattle.tape_records.specs.Records.{record_of, address}
 use Rattle.tape_records.specs.Inner.Reading.{found as foundParts, parts_of}
 use Rattle.tape_records.specs.Lemmas.Whole.{never, record_length}
@@ -24,31 +24,31 @@ use Rattle.tape_rescuing.specs.Rescuing.{worth, Saved, found}
 use Rattle.tape_rescuing.specs.Lemmas.Worth.{worth_item}
 
 -- of X, x is left
-pub record Underway (X x : Saved) (l₀ l : List ℕ) (next kept dropped first : ℕ) : Type 0 where
+pub record Underway (X x : Saved) (w₀ w : Writer) (kept dropped first : ℕ) : Type 0 where
   pub keeps : kept + length x.records ≡ length X.records
   pub drops : dropped + x.dropped ≡ X.dropped
   pub begins : cond (eqb dropped 0) x.first first ≡ X.first
-  pub writes : Left l next (tape_text kept x.records) l₀ 0 (tape_text 0 X.records)
+  pub writes : Left w (tape_text kept x.records) w₀ (tape_text 0 X.records)
 
-module _ {X x y : Saved} {l₀ l : List ℕ} {next kept dropped first : ℕ} (u : Underway X x l₀ l next kept dropped first) where
-  pub on : x ≡ y → Underway X y l₀ l next kept dropped first
+module _ {X x y : Saved} {w₀ w : Writer} {kept dropped first : ℕ} (u : Underway X x w₀ w kept dropped first) where
+  pub on : x ≡ y → Underway X y w₀ w kept dropped first
   on e = rw e at u
 
-  pub one_kept : {l' : List ℕ} {next' : ℕ} (at : ℕ) (r : Stretch) → x ≡ found at (stretch r) y
-      → Wrote l next (record_text r.first r.bytes ++ newline) l' next' → Underway X y l₀ l' next' (kept + 1) dropped first
-  one_kept at r e w =
-      let v : Underway X (found at (stretch r) y) l₀ l next kept dropped first = rw e at u in
+  pub one_kept : {w' : Writer} (at : ℕ) (r : Stretch) → x ≡ found at (stretch r) y
+      → Writes w (record_text r.first r.bytes ++ newline) w' → Underway X y w₀ w' (kept + 1) dropped first
+  one_kept at r e p =
+      let v : Underway X (found at (stretch r) y) w₀ w kept dropped first = rw e at u in
       record {
         keeps = omega (arith, v.keeps);
         drops = v.drops;
         begins = v.begins;
-        writes = less_left {s = record_text r.first r.bytes ++ newline} v.writes refl w;
+        writes = less_left {s = record_text r.first r.bytes ++ newline} v.writes refl p;
       }
 
   pub one_dropped : (at reason : ℕ) → x ≡ found at (bad reason) y
-      → Underway X y l₀ l next kept (dropped + 1) (cond (eqb dropped 0) at first)
+      → Underway X y w₀ w kept (dropped + 1) (cond (eqb dropped 0) at first)
   one_dropped at reason e =
-      let v : Underway X (found at (bad reason) y) l₀ l next kept dropped first = rw e at u in
+      let v : Underway X (found at (bad reason) y) w₀ w kept dropped first = rw e at u in
       record {
         keeps = v.keeps;
         drops = omega (arith, v.drops);
@@ -57,7 +57,7 @@ module _ {X x y : Saved} {l₀ l : List ℕ} {next kept dropped first : ℕ} (u 
       }
 
 -- nothing is left
-module _ {X : Saved} {l₀ l : List ℕ} {next kept dropped first end : ℕ} (u : Underway X (record { records = []; dropped = 0; first = end }) l₀ l next kept dropped first) where
+module _ {X : Saved} {w₀ w : Writer} {kept dropped first end : ℕ} (u : Underway X (record { records = []; dropped = 0; first = end }) w₀ w kept dropped first) where
   pub all_kept : kept ≡ length X.records
   all_kept = omega (arith, u.keeps)
 
@@ -73,21 +73,21 @@ module _ {X : Saved} {l₀ l : List ℕ} {next kept dropped first end : ℕ} (u 
 
 -- a record's worth, as the code tells it
 module _ (s : List ℕ) where
-  pub worth_malformed : Malformed ≡ foundParts (record_of 59 s) → told (worth (record_of 59 s)) ≡ Bad malformed_record
+  pub worth_malformed : None ≡ foundParts (record_of 59 s) → told (worth (record_of 59 s)) ≡ Bad malformed_record
   worth_malformed e = by_case (record_of 59 s) e
     where
-      by_case : (o : Option (List ℕ)) → Malformed ≡ foundParts o → told (worth o) ≡ Bad malformed_record
+      by_case : (o : Option (List ℕ)) → None ≡ foundParts o → told (worth o) ≡ Bad malformed_record
       by_case none f = refl
       by_case (some bs) f = never (cc)
 
-  pub worth_by_parts : (p : Parts) → Record p ≡ foundParts (record_of 59 s) → told (worth (record_of 59 s)) ≡ told_by p.address p
+  pub worth_by_parts : (p : Parts) → Some p ≡ foundParts (record_of 59 s) → told (worth (record_of 59 s)) ≡ told_by p.head.address p
   worth_by_parts p e = by_case (record_of 59 s) refl e
     where
-      by_case : (o : Option (List ℕ)) → record_of 59 s ≡ o → Record p ≡ foundParts o → told (worth o) ≡ told_by p.address p
+      by_case : (o : Option (List ℕ)) → record_of 59 s ≡ o → Some p ≡ foundParts o → told (worth o) ≡ told_by p.head.address p
       by_case none g f = never (cc)
       by_case (some bs) g f =
           let same : p ≡ parts_of bs = cc in
-          by_bytes (address bs) bs (record_length 59 s bs g) ∙ ap (λ (q : Parts). told_by q.address q) (sym same)
+          by_bytes (address bs) bs (record_length 59 s bs g) ∙ ap (λ (q : Parts). told_by q.head.address q) (sym same)
 
 -- what the loop needs of each kind
 module _ (s : List ℕ) (at : ℕ) {t : List ℕ} (r : t ≡ drop at s) {item : Told} (q : item ≡ told (worth (record_of 59 t))) where

@@ -12,7 +12,7 @@ returns c =
       ← c.machine_at.ensures,
       c.step_by_record-stepped.ensures,
       ← c.from.ensures,
-      eq-eqb _ _ c.if-number-after.false,
+      eq-eqb _ _ c.if-from-after.false,
       ← decides _ _ _ c.same.ensures.alike c.same.ensures.told,
       c.compare.ensures,
     )

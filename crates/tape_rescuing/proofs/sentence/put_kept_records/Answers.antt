@@ -1,10 +1,10 @@
 -- By the number.
-use borrow.Author.Tests.{eq-eqb, ne_eqb}
-use Rattle.text_writing.specs.Lemmas.Texts.{then}
+use Rattle.std.proofs.Common.{eq-eqb, ne_eqb}
+use Rattle.text_writing.specs.Lemmas.Writing.{after}
 use Rattle.tape_rescuing.proofs.sentence.put_kept_records.Goals as goal
 
 pub returns-then-kept-eq1 : goal.returns-then-kept-eq1
-returns-then-kept-eq1 c = rw (eq-eqb _ _ c.if-kept-eq1.true) (then c.put_decimal-after_kept.ensures c.put_text.ensures)
+returns-then-kept-eq1 c = rw (eq-eqb _ _ c.if-kept-eq1.true) (after c.put_decimal.ensures c.put_text.ensures)
 
-pub returns : goal.returns
-returns c = rw (ne_eqb _ _ c.if-kept-eq1.false) (then c.put_decimal-after_kept.ensures c.put_text-2.ensures)
+pub returns-else-kept-eq1 : goal.returns-else-kept-eq1
+returns-else-kept-eq1 c = rw (ne_eqb _ _ c.if-kept-eq1.false) (after c.put_decimal.ensures c.put_text-else-kept-eq1.ensures)

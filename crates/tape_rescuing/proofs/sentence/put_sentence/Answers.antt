@@ -1,27 +1,26 @@
--- By the answer, and by what was dropped.
-use native.Mathlib.Omega.{arith}
-use borrow.Author.Tests.{eq-eqb, ne_eqb}
+-- By the refusal, and by what was dropped.
+use Rattle.std.proofs.Common.{Ok, eq-eqb, ne_eqb, arith}
 use Rattle.tape_rescuing.specs.Sentence.{sentence}
+use Rattle.tape_rescuing.specs.Lemmas.Lengths.{other_refusal}
 use Rattle.tape_rescuing.proofs.sentence.put_sentence.Goals as goal
 
-pub returns-then-rescued-eq-NO_END : goal.returns-then-rescued-eq-NO_END
+pub returns-then-rescued-eq0-clause-wrote : goal.returns-then-rescued-eq0-clause-wrote
 unfolding sentence
-returns-then-rescued-eq-NO_END c =
-    let wrote = c.put_text.ensures in
-    rw (eq-eqb _ _ c.if-rescued-eq-NO_END.true) (record { wrote = wrote; upper_bound = omega (arith, wrote.ends) })
+returns-then-rescued-eq0-clause-wrote c = rw (c.in-Ok.is, eq-eqb _ _ c.if-rescued-eq0.true) c.put_none_dropped.ensures.wrote
 
-pub returns-then-rescued-eq-NO_ROOM : goal.returns-then-rescued-eq-NO_ROOM
+pub returns-else-rescued-eq0-clause-wrote : goal.returns-else-rescued-eq0-clause-wrote
 unfolding sentence
-returns-then-rescued-eq-NO_ROOM c =
-    let wrote = c.put_text-then-rescued-eq-NO_ROOM.ensures in
-    rw (ne_eqb _ _ c.if-rescued-eq-NO_END.false, eq-eqb _ _ c.if-rescued-eq-NO_ROOM.true) (record { wrote = wrote; upper_bound = omega (arith, wrote.ends) })
+returns-else-rescued-eq0-clause-wrote c = rw (c.in-Ok.is, ne_eqb _ _ c.if-rescued-eq0.false) c.put_lost.ensures.wrote
 
-pub returns-then-rescued-eq0 : goal.returns-then-rescued-eq0
+pub returns-in-NoEnd-clause-wrote : goal.returns-in-NoEnd-clause-wrote
 unfolding sentence
-returns-then-rescued-eq0 c =
-    rw (ne_eqb _ _ c.if-rescued-eq-NO_END.false, ne_eqb _ _ c.if-rescued-eq-NO_ROOM.false, eq-eqb _ _ c.if-rescued-eq0.true) (record { wrote = c.put_none_dropped.ensures.wrote; upper_bound = c.put_none_dropped.ensures.upper_bound })
+returns-in-NoEnd-clause-wrote c = rw (c.in-Err.is, c.in-NoEnd.is) c.put_text.ensures
 
-pub returns : goal.returns
+pub returns-in-NoRoom-clause-wrote : goal.returns-in-NoRoom-clause-wrote
 unfolding sentence
-returns c =
-    rw (ne_eqb _ _ c.if-rescued-eq-NO_END.false, ne_eqb _ _ c.if-rescued-eq-NO_ROOM.false, ne_eqb _ _ c.if-rescued-eq0.false) (record { wrote = c.put_lost.ensures.wrote; upper_bound = c.put_lost.ensures.upper_bound })
+returns-in-NoRoom-clause-wrote c = rw (c.in-Err.is, c.in-NoRoom.is) c.put_text-in-NoRoom.ensures
+
+pub returns-in_default : goal.returns-in_default
+returns-in_default c =
+    rw (c.in-Err.is, other_refusal c.in-Err.refusal _ c.in_default.not-NoEnd c.in_default.not-NoRoom)
+    (record { wrote = c.put_none_dropped-in_default.ensures.wrote; upper_bound = c.put_none_dropped-in_default.ensures.upper_bound })
