@@ -33,12 +33,7 @@ use tape_rescuing::{LONGEST_SENTENCE, Rescued, Tally, numbers_of, put_sentence, 
 use text_writing::Writer;
 
 // Says what was saved, and why a reader refuses the old tape if nothing else has told that it is not whole.
-fn explain(
-    console: &mut Console,
-    index: usize,
-    rescued: Result<Rescued, Refusal>,
-    verdict: Verdict,
-)
+fn explain(console: &mut Console, index: usize, rescued: Result<Rescued, Refusal>, verdict: Verdict)
     ensures { FailureStays console.old.failed console.new.failed }
 {
     let mut text = [0u8; LONGEST_SENTENCE];
@@ -47,7 +42,15 @@ fn explain(
     let size = out.place();
     console.say_of(index, &text[..size]);
     match (rescued, verdict) {
-        (Ok(Rescued { tally: Tally { dropped: 0, .. }, .. }), Err(_)) => {
+        (
+            Ok(
+                Rescued {
+                    tally: Tally { dropped: 0, .. },
+                    ..
+                },
+            ),
+            Err(_),
+        ) => {
             say_verdict(console, index, Format::Tape, verdict);
         }
         _ => {}
