@@ -7,7 +7,7 @@ ghost use Rattle.program_survey.specs.Line.{read_fields, rescue_fields, line, lo
 
 use laws::answers::Refusal;
 use tape_loading::{Verdict, number_and_reach};
-use tape_rescuing::{Rescued, numbers_of};
+use tape_rescuing::{Rescued, Tally, numbers_of};
 use text_writing::Writer;
 
 fn put_read(out: &mut Writer, verdict: Verdict)
@@ -24,11 +24,16 @@ fn put_rescued(out: &mut Writer, rescued: Result<Rescued, Refusal>)
     ensures wrote { Writes out.old (rescue_fields (report_of rescued)) out.new }
     ensures upper_bound { out.new.at ≤ out.old.at + 67 }
 {
-    let (answer, Rescued { tally, .. }) = numbers_of(rescued);
+    let (answer, numbers) = numbers_of(rescued);
+    let Tally {
+        kept,
+        dropped,
+        first,
+    } = numbers.tally;
     out.put_spaced_decimal(answer as u64);
-    out.put_spaced_decimal(tally.kept);
-    out.put_spaced_decimal(tally.dropped);
-    out.put_spaced_decimal(tally.first as u64);
+    out.put_spaced_decimal(kept);
+    out.put_spaced_decimal(dropped);
+    out.put_spaced_decimal(first as u64);
 }
 
 // The most characters that the line has.

@@ -16,7 +16,7 @@
 // What the line and the sentence say is promised by line.rt and the crates tape_loading and tape_rescuing, and the status by the functions below.
 #![tactic(auto)]
 
-ghost use Rattle.std.specs.Prelude.{◌≡◌, take};
+ghost use Rattle.std.specs.Prelude.{◌≡◌, ◌≤◌, take};
 ghost use Rattle.statuses.specs.Statuses.{first_of};
 ghost use Rattle.console.specs.Failing.{FailureStays};
 ghost use Rattle.tape_paper.specs.Tapes.{tape_of};
@@ -81,8 +81,10 @@ fn survey_one(rt: HostRuntime, index: usize) -> u8 {
 fn survey_all(rt: HostRuntime, from: usize) -> u8
     requires { from ≤ 255 }
 {
-    (from..argument_count(rt).max(from + 1))
-        .fold(0, |status, index| first_of(status, survey_one(rt, index)))
+    (from..argument_count(rt).max(from + 1)).fold(
+        0,
+        |status, index| first_of(status, survey_one(rt, index)),
+    )
 }
 
 fn main(rt: HostRuntime) {
