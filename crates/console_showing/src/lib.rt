@@ -84,13 +84,7 @@ fn show_input(rt: HostRuntime, index: usize, view: View, goal: Goal, count: u64)
 
 // Shows the run that the arguments from an index on ask for, the number of its steps and its image, and answers its status. If
 // they are not these it says what the program takes.
-pub fn show_by_arguments(
-    rt: HostRuntime,
-    from: usize,
-    view: View,
-    goal: Goal,
-    usage: &[u8],
-) -> u8
+pub fn show_by_arguments(rt: HostRuntime, from: usize, view: View, goal: Goal, usage: &[u8]) -> u8
     requires { from ≤ 254 }
 {
     match (count_argument(rt, from), name_from(rt, from + 1)) {

@@ -24,13 +24,7 @@ impl Parts for View {
     ghost STEPS = { 1000 };
 
     // A part of a run, with its lines.
-    fn make(
-        &self,
-        console: &mut Console,
-        machine: Machine,
-        bound: u64,
-        image: &mut [u8],
-    ) -> Ended {
+    fn make(&self, console: &mut Console, machine: Machine, bound: u64, image: &mut [u8]) -> Ended {
         let mut text = [0u8; LONGEST_PART];
         let mut out = Writer::new(&mut text);
         let ended = put_steps(&mut out, *self, machine, bound, image);

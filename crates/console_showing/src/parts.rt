@@ -17,13 +17,7 @@ pub trait Parts {
     ghost STEPS: { ℕ };
 
     // Makes a part of so many steps at most. What fails there is noted.
-    fn make(
-        &self,
-        console: &mut Console,
-        machine: Machine,
-        bound: u64,
-        image: &mut [u8],
-    ) -> Ended
+    fn make(&self, console: &mut Console, machine: Machine, bound: u64, image: &mut [u8]) -> Ended
         requires { bound ≤ STEPS }
         ensures gives { Gives (long_run (length image.old) bound idle machine) image.old result image.new }
         ensures failure_stays { FailureStays console.old.failed console.new.failed };
