@@ -1,7 +1,7 @@
 // A row that keeps the memory as it is, carried out.
 ghost use Rattle.std.specs.Prelude.{◌≡◌, false, ◌+◌, ◌≤◌};
 ghost use Rattle.instruction.specs.Theorems.Table.{most_extra};
-ghost use Rattle.opcode_numbers.specs.Inner.Storing.{stores_in};
+ghost use Rattle.opcode_effects.specs.Inner.Storing.{stores_in};
 ghost use Rattle.manual.specs.Micro.{Gives};
 ghost use Rattle.manual.specs.Instructions.{perform};
 ghost use Rattle.opcode_effects.specs.Inner.Performing.{entry_of, read_entry, performed, fetching, finished};

@@ -1,9 +1,8 @@
-// The operations and the addressing modes by number: what each number stands for. The rows name them so.
+// The operations and the addressing modes by number: what each number stands for. The arrays of the opcode table name them so.
 #![tactic(auto)]
 
 ghost use Rattle.std.specs.Prelude.{◌≡◌};
 ghost use Rattle.opcode_numbers.specs.Inner.Operations.{mode_at, operation_at};
-ghost use Rattle.opcode_numbers.specs.Inner.Storing.{storing_at};
 
 use instruction::{
     AddressingMode, BranchOperation, Instruction, InternalOperation, ModifyOperation,
@@ -13,30 +12,6 @@ use number::*;
 
 pub mod number; // number.rt: the numbers
 
-// The operation of a number, of those that can store; NOP for any other number. It stands by itself, because the rows that
-// store ask for these alone.
-#[tactic(auto, unfolding(crate::specs::Inner::Storing::storing_at, crate::specs::Inner::Operations::operation_at, crate::specs::Inner::Operations::operations))]
-pub fn storing_at(number: u8) -> Instruction
-    ensures { result ≡ storing_at number }
-{
-    match number {
-        ASL => Instruction::Modify(ModifyOperation::ASL),
-        BRK => Instruction::BRK,
-        DEC => Instruction::Modify(ModifyOperation::DEC),
-        INC => Instruction::Modify(ModifyOperation::INC),
-        JSR => Instruction::JSR,
-        LSR => Instruction::Modify(ModifyOperation::LSR),
-        PHA => Instruction::PHA,
-        PHP => Instruction::PHP,
-        ROL => Instruction::Modify(ModifyOperation::ROL),
-        ROR => Instruction::Modify(ModifyOperation::ROR),
-        STA => Instruction::Store(StoreOperation::STA),
-        STX => Instruction::Store(StoreOperation::STX),
-        STY => Instruction::Store(StoreOperation::STY),
-        _ => Instruction::Internal(InternalOperation::NOP),
-    }
-}
-
 // The operation of a number; NOP for a number that stands for none.
 #[tactic(auto, unfolding(crate::specs::Inner::Operations::operation_at, crate::specs::Inner::Operations::operations))]
 pub fn operation_at(number: u8) -> Instruction
@@ -45,6 +20,7 @@ pub fn operation_at(number: u8) -> Instruction
     match number {
         ADC => Instruction::Read(ReadOperation::ADC),
         AND => Instruction::Read(ReadOperation::AND),
+        ASL => Instruction::Modify(ModifyOperation::ASL),
         BCC => Instruction::Branch(BranchOperation::BCC),
         BCS => Instruction::Branch(BranchOperation::BCS),
         BEQ => Instruction::Branch(BranchOperation::BEQ),
@@ -52,6 +28,7 @@ pub fn operation_at(number: u8) -> Instruction
         BMI => Instruction::Branch(BranchOperation::BMI),
         BNE => Instruction::Branch(BranchOperation::BNE),
         BPL => Instruction::Branch(BranchOperation::BPL),
+        BRK => Instruction::BRK,
         BVC => Instruction::Branch(BranchOperation::BVC),
         BVS => Instruction::Branch(BranchOperation::BVS),
         CLC => Instruction::Internal(InternalOperation::CLC),
@@ -61,32 +38,43 @@ pub fn operation_at(number: u8) -> Instruction
         CMP => Instruction::Read(ReadOperation::CMP),
         CPX => Instruction::Read(ReadOperation::CPX),
         CPY => Instruction::Read(ReadOperation::CPY),
+        DEC => Instruction::Modify(ModifyOperation::DEC),
         DEX => Instruction::Internal(InternalOperation::DEX),
         DEY => Instruction::Internal(InternalOperation::DEY),
         EOR => Instruction::Read(ReadOperation::EOR),
+        INC => Instruction::Modify(ModifyOperation::INC),
         INX => Instruction::Internal(InternalOperation::INX),
         INY => Instruction::Internal(InternalOperation::INY),
         JMP => Instruction::JMP,
+        JSR => Instruction::JSR,
         LDA => Instruction::Read(ReadOperation::LDA),
         LDX => Instruction::Read(ReadOperation::LDX),
         LDY => Instruction::Read(ReadOperation::LDY),
+        LSR => Instruction::Modify(ModifyOperation::LSR),
         NOP => Instruction::Internal(InternalOperation::NOP),
         ORA => Instruction::Read(ReadOperation::ORA),
+        PHA => Instruction::PHA,
+        PHP => Instruction::PHP,
         PLA => Instruction::PLA,
         PLP => Instruction::PLP,
+        ROL => Instruction::Modify(ModifyOperation::ROL),
+        ROR => Instruction::Modify(ModifyOperation::ROR),
         RTI => Instruction::RTI,
         RTS => Instruction::RTS,
         SBC => Instruction::Read(ReadOperation::SBC),
         SEC => Instruction::Internal(InternalOperation::SEC),
         SED => Instruction::Internal(InternalOperation::SED),
         SEI => Instruction::Internal(InternalOperation::SEI),
+        STA => Instruction::Store(StoreOperation::STA),
+        STX => Instruction::Store(StoreOperation::STX),
+        STY => Instruction::Store(StoreOperation::STY),
         TAX => Instruction::Internal(InternalOperation::TAX),
         TAY => Instruction::Internal(InternalOperation::TAY),
         TSX => Instruction::Internal(InternalOperation::TSX),
         TXA => Instruction::Internal(InternalOperation::TXA),
         TXS => Instruction::Internal(InternalOperation::TXS),
         TYA => Instruction::Internal(InternalOperation::TYA),
-        _ => storing_at(number),
+        _ => Instruction::Internal(InternalOperation::NOP),
     }
 }
 

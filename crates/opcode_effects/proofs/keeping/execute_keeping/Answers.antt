@@ -9,7 +9,7 @@ use Rattle.instruction.specs.declared.ModifyOperation.{ModifyOperation}
 use Rattle.instruction.specs.declared.BranchOperation.{BranchOperation}
 use Rattle.instruction.specs.declared.InternalOperation.{InternalOperation}
 use Rattle.instruction.specs.declared.AddressingMode.{AddressingMode}
-use Rattle.opcode_numbers.specs.Inner.Storing.{stores_in}
+use Rattle.opcode_effects.specs.Inner.Storing.{stores_in}
 use Rattle.manual.specs.Lemmas.Programs.{at_once}
 use Rattle.opcode_effects.proofs.keeping.execute_keeping.Goals as goal
 

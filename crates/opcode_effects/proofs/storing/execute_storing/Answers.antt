@@ -7,7 +7,7 @@ use Rattle.instruction.specs.declared.Instruction.TheVariants.{Read, Store, Modi
 use Rattle.instruction.specs.declared.StoreOperation.{StoreOperation}
 use Rattle.instruction.specs.declared.ModifyOperation.{ModifyOperation}
 use Rattle.instruction.specs.declared.AddressingMode.{AddressingMode}
-use Rattle.opcode_numbers.specs.Inner.Storing.{stores_in}
+use Rattle.opcode_effects.specs.Inner.Storing.{stores_in}
 use Rattle.opcode_effects.proofs.storing.execute_storing.Goals as goal
 
 the_others : (i : Instruction) (mode : AddressingMode)

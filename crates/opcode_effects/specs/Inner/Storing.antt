@@ -1,12 +1,9 @@
--- The instructions that store, and the operations by number that do so in some mode.
-use Rattle.std.specs.Prelude.{ℕ, Bool, true, false, not, cond, eqb}
+-- The instructions that store.
+use Rattle.std.specs.Prelude.{Bool, true, false, not, eqb}
 use Rattle.instruction.specs.declared.Instruction.{Instruction}
 use Rattle.instruction.specs.declared.Instruction.TheVariants.{Read, Store, Modify, Branch, Internal, BRK, JMP, JSR, PHA, PHP, PLA, PLP, RTI, RTS}
-use Rattle.instruction.specs.declared.InternalOperation.TheVariants.{NOP}
 use Rattle.instruction.specs.declared.AddressingMode.{AddressingMode}
-use Rattle.instruction.specs.declared.AddressingMode.TheVariants.{Absolute}
 use Rattle.instruction.specs.Modes.{operand_bytes}
-use Rattle.opcode_numbers.specs.Inner.Operations.{operation_at}
 
 -- a modification with no operand byte is one of the accumulator
 abbrev pub stores_in : Instruction → AddressingMode → Bool
@@ -24,10 +21,3 @@ stores_in PLA mode = false
 stores_in PLP mode = false
 stores_in RTI mode = false
 stores_in RTS mode = false
-
--- an operation that stores in a mode with operand bytes if it does so in any; NOP stands for the others
-abbrev pub if_storing : Instruction → Instruction
-if_storing i = cond (stores_in i Absolute) i (Internal NOP)
-
-unfoldable pub storing_at : ℕ → Instruction
-storing_at n = if_storing (operation_at n)
