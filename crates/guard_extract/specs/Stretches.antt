@@ -1,5 +1,5 @@
 -- The word that says what is sealed: stretches such as 0400-04FF, a comma between two of them.
-use Rattle.std.specs.Prelude.{ℕ, zero, suc, ◌≡◌, Bool, false, cond, ◌&&◌, ◌||◌, List, [], ◌∷◌, eqb, leb, ltb, length}
+use Rattle.std.specs.Prelude.{ℕ, zero, suc, ◌≡◌, Bool, false, cond, ◌&&◌, ◌||◌, List, [], ◌∷◌, eqb, leb, ltb, length, Option, Some, None}
 use Rattle.text_reading.specs.Numbers.{nowhere, word_at, mark_at}
 use Rattle.guard_maps.specs.Maps.{in_map}
 use Rattle.guard_extract.specs.declared.stretches.Stretch.{Stretch}
@@ -23,6 +23,10 @@ stretch_at word at =
     let first = word_at word at in
     let last = word_at word (mark_at 45 word first.next) in
     record { first = first.value; last = last.value; next = last.next }
+
+-- the code has it only if it stands there
+abbrev pub stretch_found : Stretch → Option Stretch
+stretch_found s = cond (eqb s.next nowhere) None (Some s)
 
 -- FFFC or FFFD, where a run finds its start
 abbrev pub holds_start : ℕ → ℕ → Bool

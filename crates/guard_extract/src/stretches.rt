@@ -1,12 +1,13 @@
 // The word that says what is sealed: stretches such as 0400-04FF, a comma between two of them.
 ghost use Rattle.std.specs.Prelude.{◌≡◌, ◌||◌, ℕ, ◌≤◌, length};
+ghost use Rattle.text_reading.specs.Found.{place_found};
 ghost use Rattle.guard_maps.specs.Maps.{in_map};
-ghost use Rattle.guard_extract.specs.Stretches.{in_stretch, holds_start, stretch_at, place_after, Sealing};
+ghost use Rattle.guard_extract.specs.Stretches.{in_stretch, holds_start, stretch_found, stretch_at, place_after, Sealing};
 
-use guard_maps::put_in;
-use text_reading::{NOWHERE, read_mark, read_word};
+use guard_maps::{Map, put_in};
+use text_reading::{read_mark, read_word};
 
-// A stretch that stands at a place of a word, and the place after it: NOWHERE if none stands there.
+// A stretch that stands at a place of a word, and the place after it.
 #[derive(Clone, Copy)]
 pub struct Stretch {
     pub first: u16,
@@ -25,28 +26,24 @@ pub enum Spelled {
 }
 
 // The stretch at a place.
-fn read_stretch(word: &[u8], at: usize) -> Stretch
-    ensures { result ≡ stretch_at word.now at }
+fn read_stretch(word: &[u8], at: usize) -> Option<Stretch>
+    ensures { result ≡ stretch_found (stretch_at word.now at) }
 {
-    let first = read_word(word, at);
-    let last = read_word(word, read_mark(word, first.next, b'-'));
-    Stretch {
+    let first = read_word(word, at)?;
+    let last = read_word(word, read_mark(word, first.next, b'-')?)?;
+    Some(Stretch {
         first: first.value,
         last: last.value,
         next: last.next,
-    }
+    })
 }
 
 // Puts the addresses of a stretch into it.
-fn put_stretch(map: &mut [u8], first: u16, last: u16)
-    requires { length map.old ≡ 8192 }
+fn put_stretch(map: &mut Map, first: u16, last: u16)
     ensures { (a : ℕ) → in_map map.new a ≡ (in_map map.old a || in_stretch first last a) }
 {
-    let end = last as usize;
-    let mut place = first as usize;
-    while place <= end {
-        put_in(map, place as u16);
-        place += 1;
+    for place in first..=last {
+        put_in(map, place);
     }
 }
 
@@ -54,34 +51,31 @@ fn put_stretch(map: &mut [u8], first: u16, last: u16)
 fn holds_start(first: u16, last: u16) -> bool
     ensures { result ≡ holds_start first last }
 {
-    if 0xFFFD < first {
-        return false;
-    }
-    0xFFFC <= last
+    first <= 0xFFFD && 0xFFFC <= last
 }
 
-// The place after a stretch: that of the next one, after a comma, or the end of the word. NOWHERE if something else stands there.
-fn place_after(word: &[u8], next: usize) -> usize
-    ensures { result ≡ place_after word.now next }
+// The place after a stretch: that of the next one, after a comma, or the end of the word; none if something else stands there.
+fn place_after(word: &[u8], next: usize) -> Option<usize>
+    ensures { result ≡ place_found (place_after word.now next) }
 {
     if next == word.len() {
-        return next;
+        return Some(next);
     }
     read_mark(word, next, b',')
 }
 
 // Puts the stretches of a word into a map, in any order, overlapping or not.
-pub fn read_stretches(word: &[u8], map: &mut [u8]) -> Spelled
-    requires { length map.old ≡ 8192 }
+pub fn read_stretches(word: &[u8], map: &mut Map) -> Spelled
     ensures { Sealing word.now map.old result map.new }
 {
     let mut at: usize = 0;
     loop {
-        let stretch = read_stretch(word, at);
-        let next = place_after(word, stretch.next);
-        if next == NOWHERE {
+        let Some(stretch) = read_stretch(word, at) else {
             return Spelled::Otherwise(at);
-        }
+        };
+        let Some(next) = place_after(word, stretch.next) else {
+            return Spelled::Otherwise(at);
+        };
         if stretch.last < stretch.first {
             return Spelled::Backwards(at);
         }
@@ -100,12 +94,5 @@ pub fn read_stretches(word: &[u8], map: &mut [u8]) -> Spelled
 pub fn stretch_end(text: &[u8]) -> usize
     ensures { result ≤ length text.now }
 {
-    let mut end = 0;
-    while end < text.len() {
-        if text[end] == b',' {
-            return end;
-        }
-        end += 1;
-    }
-    end
+    text.iter().position(|byte| *byte == b',').unwrap_or(text.len())
 }

@@ -3,25 +3,36 @@ ghost use Rattle.std.specs.Prelude.{◌≡◌, ◌+◌, ◌-◌, ◌≤◌, true
 ghost use Rattle.std.proofs.lemmas.List.Edits.{sets};
 ghost use Rattle.console.specs.Failing.{FailureStays};
 ghost use Rattle.text_reading.specs.Numbers.{nowhere};
+ghost use Rattle.text_writing.specs.Delivered.{answer_in};
+ghost use Rattle.trace_checking.specs.Checking.{part_numbers};
 ghost use Rattle.program_check.specs.Inner.Ahead.{most_held, part_end, another};
 ghost use Rattle.program_check.specs.Inner.Turns.{part_in, added, Goes, More, Ends};
 
 use console::{Console, Input, close_input, put_input_name, say_why, show_progress, wipe_progress};
-use laws::answers::*;
+use laws::answers::Refusal;
+use manual::Machine;
 use statuses::FAILED;
-use text_writing::put_text;
-use trace_checking::{Last, Part, check_part, whole_lines};
+use text_writing::Writer;
+use trace_checking::{Part, check_part, whole_lines};
 
-// What the check shows so far: its answer, the accepted entries and the last of them.
-#[derive(Drop)]
+// What the check shows so far: why the log is refused, if it is, the accepted entries and the last of them.
+#[derive(Clone, Copy)]
 pub(crate) struct Found {
-    pub(crate) answer: u8,
+    pub(crate) refusal: Option<Refusal>,
     pub(crate) lines: u64,
-    pub(crate) last: Last,
+    pub(crate) last: Option<Machine>,
 }
 
-// The same after a part, how much is kept for the next one, and whether there is one.
-#[derive(Drop)]
+// What is shown before the first part.
+const NOTHING: Found = Found {
+    refusal: None,
+    lines: 0,
+    last: None,
+};
+
+// The same after a part, how much is kept for the next one, and whether there is one. No enum: the other two are promised
+// in either case.
+#[derive(Clone, Copy)]
 struct Turn {
     found: Found,
     kept: usize,
@@ -61,10 +72,7 @@ fn part_end(size: usize, whole: usize, ended: bool) -> usize
     ensures value { result ≡ part_end ended size whole }
     ensures upper_bound { (result ≤ size) × (size - result ≤ most_held) }
 {
-    if ended {
-        return size;
-    }
-    if MOST_HELD < size - whole {
+    if ended || MOST_HELD < size - whole {
         return size;
     }
     whole
@@ -76,35 +84,35 @@ fn keep_rest(buffer: &mut [u8], end: usize, size: usize) -> usize
     ensures buffer_after { buffer.new ≡ sets buffer.old 0 (take (size - end) (drop end buffer.old)) }
     ensures value { result ≡ size - end }
 {
+    let left = size - end;
     let mut rest = [0u8; MOST_HELD];
-    let left = put_text(&mut rest, 0, &buffer[end..size]);
-    put_text(buffer, 0, &rest[..left]);
+    rest[..left].copy_from_slice(&buffer[end..size]);
+    buffer[..left].copy_from_slice(&rest[..left]);
     left
 }
 
 // Whether another part is to be read.
-fn goes_on(size: usize, whole: usize, ended: bool, answer: u8) -> bool
+fn goes_on(size: usize, whole: usize, ended: bool, refusal: Option<Refusal>) -> bool
     requires { whole ≤ size }
-    ensures { result ≡ another ended size whole answer }
+    ensures { result ≡ another ended size whole (answer_in refusal) }
 {
-    if ended {
+    if ended || MOST_HELD < size - whole {
         return false;
     }
-    if MOST_HELD < size - whole {
-        return false;
+    match refusal {
+        None => true,
+        Some(_) => false,
     }
-    answer == NOT_REFUSED
 }
 
 // What a part shows, after so many entries.
 fn tally(lines: u64, part: Part) -> Found
-    ensures { lines + part.lines ≤ nowhere → part_in result ≡ added lines part }
+    ensures { lines + part.lines ≤ nowhere → part_in result ≡ added lines (part_numbers part) }
 {
-    let last = part.last;
     Found {
-        answer: part.answer,
+        refusal: part.refusal,
         lines: lines.wrapping_add(part.lines as u64),
-        last: last,
+        last: part.last,
     }
 }
 
@@ -123,16 +131,11 @@ fn check_read(
 {
     let whole = whole_lines(&buffer[..size]);
     let end = part_end(size, whole, ended);
-    let before = found.last;
-    let part = check_part(before, &buffer[..end], copy);
-    let left = keep_rest(buffer, end, size);
-    let more = goes_on(size, whole, ended, part.answer);
-    let lines = found.lines;
-    Turn {
-        found: tally(lines, part),
-        kept: left,
-        more: more,
-    }
+    let part = check_part(found.last, &buffer[..end], copy);
+    let kept = keep_rest(buffer, end, size);
+    let more = goes_on(size, whole, ended, part.refusal);
+    let found = tally(found.lines, part);
+    Turn { found, kept, more }
 }
 
 // Reads a part and checks it. If it cannot be read nothing more is checked.
@@ -154,8 +157,8 @@ fn check_some(
     let size = read_more(console, log, shown, kept, buffer);
     if console.failed != 0 {
         return Turn {
-            found: found,
-            kept: kept,
+            found,
+            kept,
             more: false,
         };
     }
@@ -173,14 +176,9 @@ fn check_from(console: &mut Console, log: &mut Input, shown: &[u8], copy: &mut [
     ensures failure_stays { FailureStays console.old.failed console.new.failed }
 {
     let mut buffer = [0u8; 65536];
-    let mut found = Found {
-        answer: NOT_REFUSED,
-        lines: 0,
-        last: Last::Start,
-    };
+    let mut found = NOTHING;
     let mut kept: usize = 0;
-    let mut turns: u64 = 18446744073709551615;
-    while 0 < turns {
+    for _ in 0..u64::MAX {
         let turn = check_some(console, log, shown, found, kept, &mut buffer, copy);
         found = turn.found;
         kept = turn.kept;
@@ -188,7 +186,6 @@ fn check_from(console: &mut Console, log: &mut Input, shown: &[u8], copy: &mut [
             return found;
         }
         tell_progress(console.rt, found.lines);
-        turns -= 1;
     }
     console.note_failure(FAILED);
     found
@@ -200,14 +197,12 @@ pub(crate) fn check_log(console: &mut Console, index: usize, copy: &mut [u8]) ->
     ensures failure_stays { FailureStays console.old.failed console.new.failed }
 {
     match console.open_input(index) {
-        None => Found {
-            answer: NOT_REFUSED,
-            lines: 0,
-            last: Last::Start,
-        },
+        None => NOTHING,
         Some(mut log) => {
             let mut name = [0u8; 4096];
-            let size = put_input_name(console.rt, &mut name, index);
+            let mut out = Writer::new(&mut name);
+            put_input_name(console.rt, &mut out, index);
+            let size = out.place();
             let found = check_from(console, &mut log, &name[..size], copy);
             wipe_progress(console.rt);
             close_input(log);

@@ -20,38 +20,43 @@
 ghost use Rattle.std.specs.Prelude.{◌≡◌, ◌≤◌, length, take};
 ghost use Rattle.statuses.specs.Statuses.{log_status, first_of};
 ghost use Rattle.console.specs.Failing.{FailureStays};
+ghost use Rattle.text_writing.specs.Delivered.{answer_in};
 ghost use Rattle.program_check.specs.Concluded.{Concludes, Notes};
 ghost use Rattle.trace_line.specs.Lines.{longest_line};
 
 use console::{Console, argument_count, argument_is, hand_over, names_from, refuse};
 use console_ending::say_refused;
-use laws::answers::*;
+use laws::answers::{MEMORY_NOT_FULL, Refusal};
 use log::{Found, check_log};
-use manual::Ended;
+use manual::{Ended, Machine};
 use memory::image_buffer;
 use sentences::{LONGEST_SENTENCE, put_sentence};
 use statuses::{Goal, first_of, log_status};
-use trace_checking::Last;
+use text_writing::{Writer, answer_in};
 use trace_line::LONGEST_LINE;
 use trace_steps::put_steps;
 use trace_text::{LONGEST_FINDING, LONGEST_VERDICT, View, put_finding, put_verdict};
 
 mod log; // log.rt: a log, read and checked part by part
 
-fn write_verdict(console: &mut Console, answer: u8, line: u64, right: &[u8])
+fn write_verdict(console: &mut Console, refusal: Option<Refusal>, line: u64, right: &[u8])
     requires { length right.now ≤ longest_line }
     ensures { FailureStays console.old.failed console.new.failed }
 {
     let mut text = [0u8; LONGEST_VERDICT];
-    let end = put_verdict(&mut text, 0, answer, line, right);
-    console.write_output(&text[..end]);
+    let mut out = Writer::new(&mut text);
+    put_verdict(&mut out, refusal, line, right);
+    let size = out.place();
+    console.write_output(&text[..size]);
 }
 
-fn say_finding(console: &mut Console, index: usize, answer: u8, number: u64)
+fn say_finding(console: &mut Console, index: usize, refusal: Option<Refusal>, number: u64)
     ensures { FailureStays console.old.failed console.new.failed }
 {
     let mut text = [0u8; LONGEST_FINDING];
-    let size = put_finding(&mut text, 0, answer, number);
+    let mut out = Writer::new(&mut text);
+    put_finding(&mut out, refusal, number);
+    let size = out.place();
     console.say_of(index, &text[..size]);
 }
 
@@ -59,65 +64,76 @@ fn say_finding(console: &mut Console, index: usize, answer: u8, number: u64)
 fn say_stuck(console: &mut Console, index: usize, ended: Ended, copy: &[u8])
     ensures { FailureStays console.old.failed console.new.failed }
 {
-    let reason = ended.reason;
-    if reason.is_made() {
+    if ended.reason.is_made() {
         return;
     }
     let mut text = [0u8; LONGEST_SENTENCE];
-    let size = put_sentence(&mut text, 0, Goal::Unnamed, ended, copy);
+    let mut out = Writer::new(&mut text);
+    put_sentence(&mut out, Goal::Unnamed, ended, copy);
+    let size = out.place();
     console.say_of(index, &text[..size]);
 }
 
 // The line that would have followed; where no step can be made, a sentence says why.
-fn show_right(console: &mut Console, index: usize, line: u64, last: Last, copy: &mut [u8])
+fn show_right(
+    console: &mut Console,
+    index: usize,
+    line: u64,
+    last: Option<Machine>,
+    copy: &mut [u8],
+)
     ensures { FailureStays console.old.failed console.new.failed }
 {
-    match last {
-        Last::Start => write_verdict(console, STRAY_ENTRY, line, b""),
-        Last::After(machine) => {
-            let mut right = [0u8; LONGEST_LINE];
-            let shown = put_steps(&mut right, View::States, machine, 1, copy);
-            let size = shown.size;
-            let ended = shown.ended;
-            say_stuck(console, index, ended, copy);
-            write_verdict(console, STRAY_ENTRY, line, &right[..size]);
-        }
+    let mut right = [0u8; LONGEST_LINE];
+    let mut out = Writer::new(&mut right);
+    if let Some(machine) = last {
+        let ended = put_steps(&mut out, View::States, machine, 1, copy);
+        say_stuck(console, index, ended, copy);
     }
+    let size = out.place();
+    write_verdict(console, Some(Refusal::StrayEntry), line, &right[..size]);
 }
 
 // What is shown of a log that is not accepted.
-fn show_bad(console: &mut Console, index: usize, status: u8, found: Found, copy: &mut [u8])
+fn show_bad(console: &mut Console, index: usize, refusal: Refusal, found: Found, copy: &mut [u8])
     ensures { FailureStays console.old.failed console.new.failed }
 {
     let bad = found.lines.wrapping_add(1);
-    say_finding(console, index, status, bad);
-    if status == STRAY_ENTRY {
-        let last = found.last;
-        show_right(console, index, bad, last, copy);
-        return;
+    say_finding(console, index, Some(refusal), bad);
+    match refusal {
+        Refusal::StrayEntry => show_right(console, index, bad, found.last, copy),
+        _ => write_verdict(console, Some(refusal), bad, b""),
     }
-    write_verdict(console, status, bad, b"");
 }
 
-// Shows what was found in a log, by its status.
-fn show_found(console: &mut Console, index: usize, status: u8, found: Found, copy: &mut [u8])
+// Why a log is not accepted, if it is not: one without an entry is malformed too.
+fn refusal_of(found: Found) -> Option<Refusal> {
+    if found.lines == 0 && found.refusal.is_none() {
+        return Some(Refusal::MalformedEntry);
+    }
+    found.refusal
+}
+
+// Shows what was found in a log.
+fn show_found(console: &mut Console, index: usize, found: Found, copy: &mut [u8])
     ensures { FailureStays console.old.failed console.new.failed }
 {
-    if status == 0 {
-        say_finding(console, index, NOT_REFUSED, found.lines);
-        write_verdict(console, NOT_REFUSED, 0, b"");
-        return;
+    match refusal_of(found) {
+        None => {
+            say_finding(console, index, None, found.lines);
+            write_verdict(console, None, 0, b"");
+        }
+        Some(refusal) => show_bad(console, index, refusal, found, copy),
     }
-    show_bad(console, index, status, found, copy);
 }
 
 // Shows what was found in a log, and answers its status.
 fn conclude(console: &mut Console, index: usize, found: Found, copy: &mut [u8]) -> u8
-    ensures value { result ≡ first_of console.new.failed (log_status (length copy.old) found.answer found.lines) }
+    ensures value { result ≡ first_of console.new.failed (log_status (length copy.old) (answer_in found.refusal) found.lines) }
     ensures failure_stays { FailureStays console.old.failed console.new.failed }
 {
-    let status = log_status(copy.len(), found.answer, found.lines);
-    show_found(console, index, status, found, copy);
+    let status = log_status(copy.len(), answer_in(found.refusal), found.lines);
+    show_found(console, index, found, copy);
     first_of(console.failed, status)
 }
 
@@ -127,7 +143,7 @@ fn refuse_image(console: &mut Console, index: usize, image: &[u8]) -> u8
     ensures failure_stays { FailureStays console.old.failed console.new.failed }
 {
     say_refused(console, index, image);
-    write_verdict(console, MEMORY_NOT_FULL, 0, b"");
+    write_verdict(console, Some(Refusal::MemoryNotFull), 0, b"");
     first_of(console.failed, MEMORY_NOT_FULL)
 }
 

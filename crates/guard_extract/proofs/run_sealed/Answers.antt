@@ -1,19 +1,12 @@
 -- The length is tested first; then the image is blanked, and the blanked one is started and guarded.
-use mathlib.Core.Path.{sym}
-use native.Mathlib.Omega.{arith}
+use Rattle.std.proofs.Common.{sym}
 use Rattle.guard_maps.specs.Maps.{in_map}
 use Rattle.guard_extract.specs.Lemmas.Lengths.{image_refused, image_by}
 use Rattle.guard_extract.proofs.run_sealed.Goals as goal
 
-pub returns-then-image-ne-FULL_MEMORY : goal.returns-then-image-ne-FULL_MEMORY
-returns-then-image-ne-FULL_MEMORY c =
-    let a = c.args in
-    rw (c.ran.ensures, c.start_image.ensures) (sym (image_refused (in_map a.sealed.now) a.steps a.image.now c.if-image-ne-FULL_MEMORY.true))
-
-pub guard_on-guarded-requires : goal.guard_on-guarded-requires
-guard_on-guarded-requires c = omega (arith, c.if-image-ne-FULL_MEMORY.false)
+pub returns-in_default : goal.returns-in_default
+returns-in_default c = rw (c.new.ensures, c.start_image-first.ensures) (sym (image_refused (in_map c.args.sealed.now) c.args.steps c.args.image.now c.in_default.ensures.cases))
 
 pub returns : goal.returns
 returns c =
-    let a = c.args in
-    image_by (in_map a.sealed.now) a.steps a.image.now c.if-image-ne-FULL_MEMORY.false c.blank.ensures c.start_image-machine.ensures c.guard_on-guarded.ensures
+    image_by (in_map c.args.sealed.now) c.args.steps c.args.image.now c.in-Some.ensures.cases.long (rw c.in-Some.ensures.cases.same at c.blank.ensures) c.start_image-machine.ensures c.guard_on-guarded.ensures

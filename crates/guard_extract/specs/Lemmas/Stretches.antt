@@ -10,7 +10,7 @@ use native.Mathlib.Omega.{arith}
 use borrow.Author.Tests.{eq-eqb, ne_eqb, lt-ltb, le-ltb, le-leb, lt-leb}
 use Rattle.std.proofs.Math.ListN.{length}
 use Rattle.text_reading.specs.Numbers.{nowhere, digit_value, no_digit, digit_at, byte_at, word_at, mark_at}
-use Rattle.text_reading.specs.declared.Word.{Word}
+use Rattle.text_reading.specs.declared.Reading.{Reading as Found_at}
 use Rattle.guard_maps.specs.Maps.{in_map}
 use Rattle.guard_extract.specs.declared.stretches.Stretch.{Stretch}
 use Rattle.guard_extract.specs.declared.stretches.Spelled.{Spelled}
@@ -18,7 +18,7 @@ use Rattle.guard_extract.specs.Stretches.{in_stretch, in_any, holds_start, stret
 
 -- ---- a stretch of a word, from its parts
 
-pub stretch_by : (word : List ℕ) (at : ℕ) {first last : Word} {mark : ℕ} → first ≡ word_at word at → mark ≡ mark_at 45 word first.next
+pub stretch_by : (word : List ℕ) (at : ℕ) {first last : Found_at ℕ} {mark : ℕ} → first ≡ word_at word at → mark ≡ mark_at 45 word first.next
     → last ≡ word_at word mark
     → record { first = first.value; last = last.value; next = last.next } ≡ stretch_at word at
 unfolding stretch_at

@@ -3,12 +3,13 @@ use Rattle.std.specs.Prelude.{◌≡◌, ℕ, ◌+◌, ◌≤◌, Bool, true, �
 use Rattle.text_reading.specs.Numbers.{nowhere}
 use Rattle.manual.specs.declared.Machine.{Machine}
 use Rattle.trace_checking.specs.Checking.{Part, part_of, checked_part}
+use Rattle.text_writing.specs.Delivered.{answer_in}
 use Rattle.program_check.specs.declared.log.Found.{Found}
 use Rattle.program_check.specs.declared.log.Turn.{Turn}
 use Rattle.program_check.specs.Inner.Ahead.{Ahead, After, Settled}
 
 abbrev pub part_in : Found → Part
-part_in f = part_of f.answer f.lines f.last
+part_in f = part_of (answer_in f.refusal) f.lines f.last
 
 abbrev pub added : ℕ → Part → Part
 added lines p = part_of p.answer (lines + p.lines) p.last

@@ -4,6 +4,7 @@ use Rattle.std.proofs.Common.{ap, sym, ◌∙◌, inl, inr, append-nil, arith, n
 use Rattle.text_reading.specs.Numbers.{nowhere}
 use Rattle.statuses.specs.Statuses.{log_status, first_of}
 use Rattle.trace_checking.specs.Checking.{checked_part}
+use Rattle.text_writing.specs.Delivered.{answer_in}
 use Rattle.program_check.specs.declared.log.Found.{Found}
 use Rattle.program_check.specs.Inner.Ahead.{Settled}
 use Rattle.program_check.specs.Inner.Turns.{part_in, Ends}
@@ -21,7 +22,7 @@ module _ (image : List ℕ) (f : Found) {m : List ℕ} (e : Ends image f m) wher
           ∙ x [] (omega (arith, h, ap length (append-nil e.0)))
 
   -- Its status is that of the text.
-  pub concluded : (size failed status : ℕ) → size ≡ length image → status ≡ first_of failed (log_status size f.answer f.lines) → Concludes image failed status
+  pub concluded : (size failed status : ℕ) → size ≡ length image → status ≡ first_of failed (log_status size (answer_in f.refusal) f.lines) → Concludes image failed status
   concluded size failed status l s = (e.0, λ h. rw (check_found h) (rw l at s))
 
 -- If something failed, the status is that failure, whatever was read.
