@@ -13,7 +13,8 @@ use std::fs::File;
 use std::io::{Read, Stdin};
 use text_writing::Writer;
 
-// How much of an input was read, and the status of what was done with it.
+// How much of an input was read, and the status of what was done with it: a promise names what was read as the start, of this
+// size, of the buffer that was lent, and a `Vec` of its own could fail for want of memory, which no status names.
 #[derive(Clone, Copy)]
 pub struct Done {
     pub size: usize,
@@ -99,7 +100,7 @@ impl Console {
         self.open_file(name, &shown[..size])
     }
 
-    // Reads until the buffer is full or the input ends.
+    // Reads until the buffer is full or the input ends. Each read takes as many bytes as come, so that no `for` counts them.
     fn read_from(&mut self, input: &mut Input, shown: &[u8], buffer: &mut [u8]) -> usize
         ensures prefix_len { IsPrefixLen result buffer.new }
         ensures failure_stays { FailureStays self.old.failed self.new.failed }

@@ -66,7 +66,7 @@ fn show_argument(
 }
 
 // The same, with room for the image.
-fn show_input(rt: HostRuntime, index: usize, view: View, goal: Goal, count: u64) -> u8 {
+pub fn show_input(rt: HostRuntime, index: usize, view: View, goal: Goal, count: u64) -> u8 {
     let mut input = image_buffer();
     let mut image = image_buffer();
     let mut console = Console::new(rt);

@@ -90,6 +90,7 @@ fn replay(console: &mut Console, text: &[u8]) -> Tally
     let mut at = 0;
     let mut lines = 0;
     let mut differ = 0;
+    // From line to line, and not by an index: no `for` is plainer.
     while at < text.len() {
         lines += 1;
         let verdict = replay_line(text, at, &mut memory, &mut expected);

@@ -25,28 +25,36 @@ ghost use Rattle.program_rescue.specs.Status.{status_of};
 
 use console::{Console, Done, hand_over, name_from, refuse};
 use console_tapes::{read_tape_input, say_verdict};
-use laws::answers::*;
+use laws::answers::Refusal;
 use statuses::{first_of, rescue_status};
-use tape_loading::{Format, Verdict, judge_tape};
+use tape_loading::{Format, Verdict, judge_tape, number_and_reach};
 use tape_paper::tape_buffer;
-use tape_rescuing::{LONGEST_SENTENCE, Rescued, put_sentence, rescue};
+use tape_rescuing::{LONGEST_SENTENCE, Rescued, Tally, numbers_of, put_sentence, rescue};
+use text_writing::Writer;
 
-fn explain(console: &mut Console, index: usize, rescued: Rescued, verdict: Verdict)
+// Says what was saved, and why a reader refuses the old tape if nothing else has told that it is not whole.
+fn explain(console: &mut Console, index: usize, rescued: Result<Rescued, Refusal>, verdict: Verdict)
     ensures { FailureStays console.old.failed console.new.failed }
 {
     let mut text = [0u8; LONGEST_SENTENCE];
-    let size = put_sentence(&mut text, 0, rescued, verdict.answer);
+    let mut out = Writer::new(&mut text);
+    put_sentence(&mut out, rescued, verdict.err().map(|fault| fault.reason));
+    let size = out.place();
     console.say_of(index, &text[..size]);
-}
-
-// Says why a reader refuses the old tape, if nothing else has told that it is not whole.
-fn explain_old(console: &mut Console, index: usize, rescued: Rescued, verdict: Verdict)
-    ensures { FailureStays console.old.failed console.new.failed }
-{
-    if rescued.answer != NOT_REFUSED || rescued.dropped != 0 || verdict.answer == NOT_REFUSED {
-        return;
+    match (rescued, verdict) {
+        (
+            Ok(
+                Rescued {
+                    tally: Tally { dropped: 0, .. },
+                    ..
+                },
+            ),
+            Err(_),
+        ) => {
+            say_verdict(console, index, Format::Tape, verdict);
+        }
+        _ => {}
     }
-    say_verdict(console, index, Format::Tape, verdict);
 }
 
 // Saves what can be saved of a tape into `text`, and prints it.
@@ -54,15 +62,12 @@ fn rescue_tape(console: &mut Console, index: usize, tape: &[u8], text: &mut [u8]
     ensures { result ≡ first_of console.new.failed (status_of tape.now text.old) }
 {
     let rescued = rescue(tape, text);
-    let size = rescued.size;
+    let (answer, Rescued { size, tally }) = numbers_of(rescued);
     console.write_output(&text[..size]);
     let verdict = judge_tape(tape);
+    let (read, _) = number_and_reach(verdict);
     explain(console, index, rescued, verdict);
-    explain_old(console, index, rescued, verdict);
-    first_of(
-        console.failed,
-        rescue_status(rescued.answer, rescued.dropped, verdict.answer),
-    )
+    first_of(console.failed, rescue_status(answer, tally.dropped, read))
 }
 
 // Saves the tape that an argument names. The buffers are lent, so that the promise can name what was read.
@@ -70,37 +75,27 @@ fn rescue_input(console: &mut Console, index: usize, tape: &mut [u8], text: &mut
     ensures { result.status ≡ first_of console.new.failed (status_of (take result.size tape.new) text.old) }
 {
     let size = read_tape_input(console, index, tape);
-    if console.failed != 0 {
-        return Done {
-            size: size,
-            status: console.failed,
-        };
-    }
-    let status = rescue_tape(console, index, &tape[..size], text);
-    Done {
-        size: size,
-        status: status,
-    }
+    let status = if console.failed != 0 {
+        console.failed
+    } else {
+        rescue_tape(console, index, &tape[..size], text)
+    };
+    Done { size, status }
 }
 
 fn rescue_argument(rt: HostRuntime, index: usize) -> u8 {
     let mut tape = tape_buffer();
     let mut text = tape_buffer();
     let mut console = Console::new(rt);
-    let done = rescue_input(&mut console, index, &mut tape, &mut text);
-    done.status
-}
-
-fn rescue_by_arguments(rt: HostRuntime) -> u8 {
-    let Some(index) = name_from(rt, 1) else {
-        return refuse(
-            rt,
-            b"rescue: name one tape, or none for standard input; ./run rescue --help\n",
-        );
-    };
-    rescue_argument(rt, index)
+    rescue_input(&mut console, index, &mut tape, &mut text).status
 }
 
 fn main(rt: HostRuntime) {
-    hand_over(rescue_by_arguments(rt));
+    hand_over(match name_from(rt, 1) {
+        Some(index) => rescue_argument(rt, index),
+        None => refuse(
+            rt,
+            b"rescue: name one tape, or none for standard input; ./run rescue --help\n",
+        ),
+    });
 }

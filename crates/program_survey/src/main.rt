@@ -16,32 +16,35 @@
 // What the line and the sentence say is promised by line.rt and the crates tape_loading and tape_rescuing, and the status by the functions below.
 #![tactic(auto)]
 
-ghost use Rattle.std.specs.Prelude.{◌≡◌, take};
+ghost use Rattle.std.specs.Prelude.{◌≡◌, ◌≤◌, take};
 ghost use Rattle.statuses.specs.Statuses.{first_of};
 ghost use Rattle.console.specs.Failing.{FailureStays};
 ghost use Rattle.tape_paper.specs.Tapes.{tape_of};
 
-use crate::line::{LONGEST_LINE, put_line};
 use console::{Console, Done, argument_count, hand_over, names_from, refuse};
 use console_tapes::{read_tape_input, say_verdict};
+use laws::answers::Refusal;
+use line::{LONGEST_LINE, put_line};
 use statuses::first_of;
-use tape_loading::{Format, Verdict, judge_tape};
+use tape_loading::{Format, Verdict, judge_tape, number_and_reach};
 use tape_paper::tape_buffer;
 use tape_rescuing::{Rescued, rescue};
+use text_writing::Writer;
 
 mod line; // line.rt: the line of a tape
 
-fn print_line(console: &mut Console, verdict: Verdict, rescued: Rescued)
+fn print_line(console: &mut Console, verdict: Verdict, rescued: Result<Rescued, Refusal>)
     ensures { FailureStays console.old.failed console.new.failed }
 {
     let mut text = [0u8; LONGEST_LINE];
-    let size = put_line(&mut text, 0, verdict, rescued);
+    let mut out = Writer::new(&mut text);
+    put_line(&mut out, verdict, rescued);
+    let size = out.place();
     console.write_output(&text[..size]);
 }
 
-fn rescue_for_counts(tape: &[u8]) -> Rescued {
-    let mut text = tape_buffer();
-    rescue(tape, &mut text)
+fn rescue_for_counts(tape: &[u8]) -> Result<Rescued, Refusal> {
+    rescue(tape, &mut tape_buffer())
 }
 
 // Surveys a tape, and answers its status.
@@ -49,10 +52,10 @@ fn survey_tape(console: &mut Console, index: usize, tape: &[u8]) -> u8
     ensures { result ≡ first_of console.new.failed (tape_of tape.now).answer }
 {
     let verdict = judge_tape(tape);
-    let rescued = rescue_for_counts(tape);
-    print_line(console, verdict, rescued);
+    print_line(console, verdict, rescue_for_counts(tape));
     say_verdict(console, index, Format::Tape, verdict);
-    first_of(console.failed, verdict.answer)
+    let (answer, _) = number_and_reach(verdict);
+    first_of(console.failed, answer)
 }
 
 // Surveys the tape that an argument names. The buffer is lent, so that the promise can name what was read.
@@ -60,45 +63,36 @@ fn survey_argument(console: &mut Console, index: usize, tape: &mut [u8]) -> Done
     ensures { result.status ≡ first_of console.new.failed (tape_of (take result.size tape.new)).answer }
 {
     let size = read_tape_input(console, index, tape);
-    if console.failed != 0 {
-        return Done {
-            size: size,
-            status: console.failed,
-        };
-    }
-    let status = survey_tape(console, index, &tape[..size]);
-    Done {
-        size: size,
-        status: status,
-    }
+    let status = if console.failed != 0 {
+        console.failed
+    } else {
+        survey_tape(console, index, &tape[..size])
+    };
+    Done { size, status }
 }
 
 // Surveys one tape in a buffer of its own.
 fn survey_one(rt: HostRuntime, index: usize) -> u8 {
-    let mut tape = tape_buffer();
     let mut console = Console::new(rt);
-    let done = survey_argument(&mut console, index, &mut tape);
-    done.status
+    survey_argument(&mut console, index, &mut tape_buffer()).status
 }
 
-fn survey_all(rt: HostRuntime) -> u8 {
-    let Some(from) = names_from(rt, 1) else {
-        return refuse(
-            rt,
-            b"survey: name tapes, or none for standard input; ./run survey --help\n",
-        );
-    };
-    let count = argument_count(rt);
-    if count <= from {
-        return survey_one(rt, from);
-    }
-    let mut status = 0;
-    for index in from..count {
-        status = first_of(status, survey_one(rt, index));
-    }
-    status
+// Surveys the tapes that are named, or else standard input, for which a missing argument stands.
+fn survey_all(rt: HostRuntime, from: usize) -> u8
+    requires { from ≤ 255 }
+{
+    (from..argument_count(rt).max(from + 1)).fold(
+        0,
+        |status, index| first_of(status, survey_one(rt, index)),
+    )
 }
 
 fn main(rt: HostRuntime) {
-    hand_over(survey_all(rt));
+    hand_over(match names_from(rt, 1) {
+        Some(from) => survey_all(rt, from),
+        None => refuse(
+            rt,
+            b"survey: name tapes, or none for standard input; ./run survey --help\n",
+        ),
+    });
 }

@@ -24,11 +24,5 @@ const USAGE: &[u8] =
     b"trace: give the number of steps, in decimal, and one image; ./run trace --help\n";
 
 fn main(rt: HostRuntime) {
-    hand_over(show_by_arguments(
-        rt,
-        1,
-        View::States,
-        Goal::AllSteps,
-        USAGE,
-    ));
+    hand_over(show_by_arguments(rt, 1, View::States, Goal::AllSteps, USAGE));
 }

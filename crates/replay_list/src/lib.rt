@@ -94,7 +94,7 @@ fn store(memory: &mut [u8], address: u16, byte: u8)
 }
 
 // Stores the cells of a list, and answers where it ends: at the first thing that is no cell. A list has no more than 64
-// of them.
+// of them. The memory is a slice, and no `Memory`: the clause promises the list for every length.
 pub fn load_bytes(text: &[u8], at: usize, memory: &mut [u8]) -> usize
     ensures { loaded_from most_cells text.now at memory.old ≡ (result, memory.new) }
 {

@@ -2,10 +2,10 @@
 // what it read there and where the text goes on; none if the text has something else.
 #![tactic(auto)]
 
-ghost use Rattle.std.specs.Prelude.{◌≡◌, ◌≤◌, ◌<◌, cond, eqb, length, drop, Some, None};
+ghost use Rattle.std.specs.Prelude.{◌≡◌, ◌≤◌, ◌<◌, cond, eqb, length, drop, IfSome, Some, None};
 ghost use Rattle.text_reading.specs.Numbers.{digit_value, digit_at, byte_at, word_at, count_at, mark_at, whole_word, whole_count};
 ghost use Rattle.text_reading.specs.Found.{found, place_found, value_found};
-ghost use Rattle.text_reading.specs.Inner.Characters.{character_at, digit_found};
+ghost use Rattle.text_reading.specs.Inner.Characters.{character_at, digit_found, digit_worth};
 
 // What was read, and where the text goes on.
 #[derive(Clone, Copy)]
@@ -71,6 +71,27 @@ pub fn read_byte(text: &[u8], at: usize) -> Option<Reading<u8>>
         value: high.value * 16 + low.value,
         next: low.next,
     })
+}
+
+// The value of the digit at a place.
+fn digit_of(text: &[u8], at: usize) -> Option<u8>
+    ensures value { result ≡ digit_worth text.now at }
+    ensures small { IfSome result (λ value. value < 16) }
+{
+    digit_value(*text.get(at)?)
+}
+
+// The byte of two hexadecimal digits, whatever stands there: what is no digit, and what follows it, counts as 0.
+pub fn byte_value(text: &[u8], at: usize) -> u8
+    ensures { result ≡ (byte_at text.now at).value }
+{
+    let Some(high) = digit_of(text, at) else {
+        return 0;
+    };
+    match digit_of(text, at + 1) {
+        Some(low) => high * 16 + low,
+        None => high * 16,
+    }
 }
 
 // Four hexadecimal digits.

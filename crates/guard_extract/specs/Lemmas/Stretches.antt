@@ -1,6 +1,6 @@
 -- Laws that the proofs of stretches.rt cite.
 use Prim.Native.Nat.{ℕ, zero, suc, ◌+◌, ◌-◌, ◌≤◌, ◌<◌}
-use Rattle.std.specs.Prelude.{◌≡◌, Bool, ◌&&◌, ◌||◌, List, [], ◌∷◌, ◌⊎◌, eqb, leb, ltb, get_or}
+use Rattle.std.specs.Prelude.{◌≡◌, Bool, ◌&&◌, ◌||◌, List, [], ◌∷◌, ◌⊎◌, eqb, leb, ltb, get_or, Option, Some, None}
 use Rattle.std.proofs.Math.Path.{refl}
 use Rattle.std.proofs.Common.{ap, sym, ◌∙◌, subst, ⊎_elim}
 use Rattle.std.proofs.Math.Bool.{true, false, cond}
@@ -11,6 +11,8 @@ use borrow.Author.Tests.{eq-eqb, ne_eqb, lt-ltb, le-ltb, le-leb, lt-leb}
 use Rattle.std.proofs.Math.ListN.{length}
 use Rattle.text_reading.specs.Numbers.{nowhere, digit_value, no_digit, digit_at, byte_at, word_at, mark_at}
 use Rattle.text_reading.specs.declared.Reading.{Reading as Found_at}
+use Rattle.text_reading.specs.Found.{found, place_found}
+use Rattle.text_reading.specs.Lemmas.Found.{some_place}
 use Rattle.guard_maps.specs.Maps.{in_map}
 use Rattle.guard_extract.specs.declared.stretches.Stretch.{Stretch}
 use Rattle.guard_extract.specs.declared.stretches.Spelled.{Spelled}
@@ -30,6 +32,9 @@ module _ (word : List ℕ) (next : ℕ) where
   pub at_end : next ≡ length word → next ≡ place_after word next
   unfolding place_after
   at_end e = rw (eq-eqb _ _ e)
+
+  pub end_found : next ≡ length word → next < nowhere → Some next ≡ place_found (place_after word next)
+  end_found e l = rw (← at_end e) (some_place _ (λ z. absurd (omega (arith, l, z))))
 
   pub at_mark : (next ≡ length word → ⊥) → mark_at 44 word next ≡ place_after word next
   unfolding place_after

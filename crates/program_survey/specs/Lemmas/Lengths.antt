@@ -3,8 +3,8 @@ use Rattle.std.specs.Prelude.{◌+◌, ◌<◌, ◌≤◌, ◌^◌, ◌≡◌, l
 use Rattle.std.proofs.Common.{arith, length-append}
 use Rattle.text_writing.specs.Numerals.{decimal}
 use Rattle.text_writing.specs.Lemmas.Texts.{decimal_length}
-use Rattle.tape_loading.specs.declared.Verdict.{Verdict}
-use Rattle.tape_rescuing.specs.declared.Rescued.{Rescued}
+use Rattle.tape_loading.specs.Answers.{Verdict}
+use Rattle.tape_rescuing.specs.Rescuing.{Report}
 use Rattle.program_survey.specs.Line.{read_fields, rescue_fields}
 
 -- an answer has at most three digits, and a count of 64 bits has twenty
@@ -19,7 +19,7 @@ read_fits v a g p =
       decimal_length 19 v.place (omega arith),
     )
 
-pub rescue_fits : (r : Rescued) → r.answer < 2 ^ 8 → r.kept < 2 ^ 64 → r.dropped < 2 ^ 64 → r.first < 2 ^ 64 → length (rescue_fields r) ≤ 67
+pub rescue_fits : (r : Report) → r.answer < 2 ^ 8 → r.kept < 2 ^ 64 → r.dropped < 2 ^ 64 → r.first < 2 ^ 64 → length (rescue_fields r) ≤ 67
 rescue_fits r a k d f =
     let whole : length (rescue_fields r) ≡ length (decimal r.answer) + length (decimal r.kept) + length (decimal r.dropped) + length (decimal r.first) + 4 = simp length-append (omega arith) in
     omega (

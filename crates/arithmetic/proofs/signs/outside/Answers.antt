@@ -5,7 +5,7 @@ use Rattle.arithmetic.proofs.signs.outside.Goals as goal
 
 pub returns-then-sum-ltminus128 : goal.returns-then-sum-ltminus128
 unfolding outside
-returns-then-sum-ltminus128 c = rw (c.if-sum-ltminus128.true, rw (to_z-of_z c.ranges.sum) at c.if-sum-ltminus128.true)
+returns-then-sum-ltminus128 c = rw (rw (to_z-of_z c.ranges.sum) at c.if-sum-ltminus128.true)
 
 pub returns-else-sum-ltminus128 : goal.returns-else-sum-ltminus128
 unfolding outside

@@ -1,14 +1,12 @@
 -- One field after the other.
 use Rattle.std.proofs.Common.{arith}
-use Rattle.text_writing.specs.Lemmas.Texts.{then, within}
+use Rattle.text_writing.specs.Lemmas.Writing.{after, ends_within}
 use Rattle.program_survey.specs.Lemmas.Lengths.{read_fits}
 use Rattle.program_survey.proofs.line.put_read.Goals as goal
 
-pub returns-clause-wrote : goal.returns-clause-wrote
-returns-clause-wrote c =
-    then (then c.put_decimal-after_answer.ensures c.put_spaced_decimal-after_good.ensures) c.put_spaced_decimal.ensures
-
-pub returns-clause-upper_bound : goal.returns-clause-upper_bound
-returns-clause-upper_bound c =
-    let wrote = then (then c.put_decimal-after_answer.ensures c.put_spaced_decimal-after_good.ensures) c.put_spaced_decimal.ensures in
-    within wrote (read_fits c.args.verdict (omega (arith, c)) (omega (arith, c)) (omega (arith, c)))
+pub returns : goal.returns
+returns c =
+    let wrote = after (after c.put_decimal.ensures c.put_spaced_decimal.ensures) c.put_spaced_decimal-2.ensures in
+    let r = c.number_and_reach-answer.result in
+    let short = read_fits (record { answer = r.0; good = r.1.good; place = r.1.place }) (omega (arith, c)) (omega (arith, c)) (omega (arith, c)) in
+    record { wrote = rw c.number_and_reach-answer.ensures at wrote; upper_bound = ends_within wrote short }
