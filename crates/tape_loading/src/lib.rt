@@ -25,7 +25,7 @@ mod sentence; // sentence.rt: what a reader found, in words
 
 pub use sentence::{LONGEST_SENTENCE, put_sentence};
 
-// The formats: MOS paper tape, and Intel HEX.
+// The formats: MOS paper tape, and Intel HEX. An enum and no trait, since which one a text has is known only when it is read.
 #[derive(Clone, Copy, PartialEq, Eq)]
 pub enum Format {
     Tape,
@@ -146,7 +146,7 @@ fn store_bytes(text: &[u8], head: Head, memory: &mut [u8]) -> usize
     out.place()
 }
 
-// Stores the data records up to the first bad one.
+// Stores the data records up to the first bad one. A loop and no `for`: the next place is what the record before answers.
 fn lay(format: Format, text: &[u8], memory: &mut [u8]) -> Verdict
     ensures { with_memory result memory.new
         ≡ outcome text.now (contents_of format text.now) (laid (contents_of format text.now).records memory.old) }
