@@ -19,6 +19,7 @@ fn with_output(registers: Registers, output: ArithmeticOutput) -> Registers
 }
 
 // What ADC gives, decimal if D is set.
+#[tactic(auto, unfolding(manual::specs::Instructions::sum))]
 fn sum(value: u8, registers: Registers) -> ArithmeticOutput
     ensures { result ≡ sum value registers }
 {
@@ -31,6 +32,7 @@ fn sum(value: u8, registers: Registers) -> ArithmeticOutput
 }
 
 // What SBC gives, decimal if D is set.
+#[tactic(auto, unfolding(manual::specs::Instructions::difference))]
 fn difference(value: u8, registers: Registers) -> ArithmeticOutput
     ensures { result ≡ difference value registers }
 {
@@ -75,6 +77,7 @@ fn exclusive_or(registers: Registers, value: u8) -> Registers
 }
 
 // What an operation does with the byte that it read.
+#[tactic(auto, unfolding(manual::specs::Instructions::applied))]
 pub fn apply_read(operation: ReadOperation, registers: Registers, value: u8) -> Registers
     ensures { result ≡ applied operation value registers }
 {

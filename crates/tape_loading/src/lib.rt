@@ -3,10 +3,6 @@
 
 ghost use Rattle.std.specs.Prelude.{◌≤◌, ◌≡◌, Err};
 ghost use Rattle.tape_records.specs.Contents.{laid, outcome, read_onto};
-ghost use Rattle.std.proofs.Math.Option.{some};
-ghost use Rattle.text_writing.specs.Written.{Wrote};
-ghost use Rattle.tape_records.specs.Records.{bytes_of};
-ghost use Rattle.tape_records.specs.Inner.Reading.{values_at};
 ghost use Rattle.tape_records.specs.Inner.Items.{told, told_in};
 ghost use Rattle.tape_paper.specs.Tapes.{tape_of, read_tape};
 ghost use Rattle.tape_intel.specs.IntelHex.{read_hex};
@@ -17,15 +13,14 @@ ghost use Rattle.tape_loading.specs.Texts.{format_of, read_text};
 
 use laws::answers::{NOT_REFUSED, Refusal};
 use manual::FULL_MEMORY;
-use tape_records::{Head, Item, skip_separators};
-use text_reading::{read_byte, rest};
-use text_writing::Writer;
+use tape_records::{Head, Item, skip_separators, store_bytes};
+use text_reading::rest;
 
 mod sentence; // sentence.rt: what a reader found, in words
 
 pub use sentence::{LONGEST_SENTENCE, put_sentence};
 
-// The formats: MOS paper tape, and Intel HEX.
+// The formats: MOS paper tape, and Intel HEX. An enum and no trait, since which one a text has is known only when it is read.
 #[derive(Clone, Copy, PartialEq, Eq)]
 pub enum Format {
     Tape,
@@ -131,22 +126,7 @@ pub fn next_record(format: Format, text: &[u8], start: usize, before: u64) -> Ne
     }
 }
 
-// Stores the bytes of a data record, which stand at the start of a text. What would lie past the memory's end is dropped, as a
-// writer of text does it. Answers the address after them.
-fn store_bytes(text: &[u8], head: Head, memory: &mut [u8]) -> usize
-    requires { bytes_of head.count text.now ≡ some (values_at head.count text.now 0) }
-    ensures { Wrote memory.old head.address (values_at head.count text.now 0) memory.new result }
-{
-    let mut out = Writer::from(memory, head.address as usize);
-    for index in 0..head.count {
-        if let Some(byte) = read_byte(text, 2 * (index as usize)) {
-            out.put_byte(byte.value);
-        }
-    }
-    out.place()
-}
-
-// Stores the data records up to the first bad one.
+// Stores the data records up to the first bad one. A loop and no `for`: the next place is what the record before answers.
 fn lay(format: Format, text: &[u8], memory: &mut [u8]) -> Verdict
     ensures { with_memory result memory.new
         ≡ outcome text.now (contents_of format text.now) (laid (contents_of format text.now).records memory.old) }
@@ -161,7 +141,7 @@ fn lay(format: Format, text: &[u8], memory: &mut [u8]) -> Verdict
                 digits,
                 after,
             } => {
-                store_bytes(rest(text, digits), head, memory);
+                store_bytes(rest(text, digits), head.count, memory, head.address);
                 at = after;
                 before += 1;
             }

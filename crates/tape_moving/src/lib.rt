@@ -96,7 +96,7 @@ fn move_record(out: &mut Writer, to: Format, head: Head, text: &[u8], place: usi
     put_record(out, to, head, &text[place..end], sum);
 }
 
-// Writes the records of a text in a format, and the end record if all is good.
+// Writes the records of a text in a format, and the end record if all is good. A loop as in tape_loading.
 fn put_records(out: &mut Writer, from: Format, to: Format, text: &[u8]) -> Verdict
     ensures { Passed to text.now (contents_of from text.now) out.old out.new result }
 {

@@ -13,7 +13,8 @@ use laws::answers::Refusal;
 use tape_records::{Head, Item, Parts, put_head, read_record};
 use text_writing::Writer;
 
-// Room for the tape of a full memory in records of one byte, which has 983,038 characters.
+// Room for the tape of a full memory in records of one byte, which has 983,038 characters. An array,
+// since the project has no heap.
 pub fn tape_buffer() -> [u8; 1048576]
     ensures { 1048576 ≡ length result }
 {

@@ -5,12 +5,12 @@ ghost use Rattle.std.specs.Prelude.{◌≡◌, ◌≤◌, ◌+◌, ◌*◌, ◌/
 ghost use Rattle.std.specs.List.{prefix_len};
 ghost use Rattle.tape_records.specs.Records.{bytes_of, record_of, separator};
 ghost use Rattle.tape_records.specs.Inner.Gaps.{gap_end};
-ghost use Rattle.tape_records.specs.Inner.Reading.{summed, found};
+ghost use Rattle.tape_records.specs.Inner.Reading.{summed, found, values_at};
 ghost use Rattle.text_reading.specs.Found.{found as read_found};
-ghost use Rattle.text_writing.specs.Written.{Writes};
+ghost use Rattle.text_writing.specs.Written.{Wrote, Writes};
 ghost use Rattle.text_writing.specs.Numerals.{hex2, hex4};
 
-use text_reading::{Reading, read_byte, read_mark, read_word, rest};
+use text_reading::{Reading, byte_value, read_byte, read_mark, read_word, rest};
 use text_writing::Writer;
 
 // What a data record says before its data: where they go, and how many bytes they are.
@@ -88,6 +88,18 @@ pub fn read_record(text: &[u8], mark: u8) -> Option<Parts>
         sum: sum.value,
         last: last.value,
     })
+}
+
+// Stores the bytes with which a text begins. What would lie past the memory's end is dropped, as a writer of text does it. Answers
+// the address after them.
+pub fn store_bytes(text: &[u8], count: u8, memory: &mut [u8], address: u16) -> usize
+    ensures { Wrote memory.old address (values_at count text.now 0) memory.new result }
+{
+    let mut out = Writer::from(memory, address as usize);
+    for index in 0..count {
+        out.put_byte(byte_value(text, 2 * (index as usize)));
+    }
+    out.place()
 }
 
 // Writes a record's mark, its count and its address.

@@ -17,11 +17,6 @@ returns-in-Stop c =
     (stops args.format text c.loop-verdict.at c.loop-verdict.before (omega arith) c.next_record.ensures (ap next_in c.in-Stop.is)))
     ∙ c.loop-verdict.invariant.3
 
-pub store_bytes-requires : goal.store_bytes-requires
-store_bytes-requires c =
-    let next = comes c.args.format c.args.text.now c.loop-verdict.at c.loop-verdict.before (omega arith) c.next_record.ensures (ap next_in c.in-Data.is) in
-    rw c.rest.ensures next.read
-
 pub overflow_add-before : goal.overflow_add-before
 overflow_add-before c =
     let next = comes c.args.format c.args.text.now c.loop-verdict.at c.loop-verdict.before (omega arith) c.next_record.ensures (ap next_in c.in-Data.is) in

@@ -1,7 +1,6 @@
 -- One law for each way out, of what is found where the gap ends.
 use Rattle.std.proofs.Common.{◌≡◌, ◌+◌, ◌*◌, Ok, ap, ◌∙◌, arith}
 use Rattle.tape_records.specs.Inner.Items.{told_in}
-use Rattle.tape_loading.specs.Lemmas.Formats.{head_small}
 use Rattle.tape_loading.specs.Lemmas.Following.{no_more, next_bad, next_stray, next_end, next_data}
 use Rattle.tape_loading.proofs.next_record.Goals as goal
 

@@ -8,8 +8,7 @@ use Rattle.std.proofs.Math.Dec.{ltb}
 use Rattle.std.proofs.lemmas.List.Edits.{sets}
 use Rattle.laws.specs.Answers.{not_refused, malformed_record, no_end}
 use Rattle.manual.specs.Stepping.{full_memory}
-use Rattle.text_reading.specs.Numbers.{nowhere, byte_at}
-use Rattle.tape_records.specs.Lemmas.Places.{byte_at_lem, next_byte, bytes_from_lem}
+use Rattle.text_reading.specs.Numbers.{nowhere}
 use Rattle.tape_records.specs.Records.{separator, bytes_of, hexes}
 use Rattle.tape_records.specs.Inner.Reading.{values_at}
 use Rattle.tape_records.specs.Contents.{Stretch, Item, stretch, finish, bad, Contents, stop, and_then, ended, contents, Loaded, laid, outcome, read_onto}
@@ -164,13 +163,3 @@ module _ (s m : List ℕ) (c : Contents) (full : length m ≡ full_memory) {v : 
 
   pub read_laid : v.answer ≡ not_refused → {x : Loaded} → x ≡ outcome s c (laid c.records m) → x ≡ read_onto s c m
   read_laid z e = e ∙ sym (read_good s c m full (sym same_answer ∙ z))
-
--- A byte of some that are there is read.
-pub byte_there : (n : ℕ) (s bs : List ℕ) → length s ≤ nowhere → bytes_of n s ≡ some bs → (i : ℕ) → i < n → n < 256 → (byte_at s (2 * i)).next ≡ nowhere → ⊥
-byte_there n s bs fits e i h few z =
-    let split : i + (1 + (n - i - 1)) ≡ n = omega arith in
-    let after = bytes_from_lem i (1 + (n - i - 1)) s bs (rw split e) in
-    let first = (next_byte 0 (n - i - 1) (drop (2 * i) s) (drop i bs) after).0 in
-    let next = rw first at (byte_at_lem s fits (2 * i)) in
-    let end : 2 * i + 2 ≡ nowhere = rw next at z in
-    omega arith

@@ -1,5 +1,5 @@
 -- The loop's invariant: the records that are left are still to be written.
-use Rattle.std.proofs.Common.{◌≡◌, ◌-◌, ◌≤◌, length, drop}
+use Rattle.std.proofs.Common.{◌-◌, ◌≤◌, length, drop}
 use Rattle.tape_records.specs.Contents.{contents}
 use Rattle.tape_loading.specs.Inner.Formats.{item_of, contents_of}
 use Rattle.tape_moving.specs.Lemmas.Passing.{Underway}

@@ -1,6 +1,5 @@
 -- The sum of the head, and that of the data.
-use Rattle.std.proofs.Common.{ap, arith}
-use Rattle.text_reading.specs.declared.Reading.{Reading}
+use Rattle.std.proofs.Common.{arith}
 use Rattle.text_reading.specs.Lemmas.Found.{got, gone}
 use Rattle.tape_moving.specs.Lemmas.Lines.{lost_sum}
 use Rattle.tape_moving.proofs.sum_record.Goals as goal

@@ -1,5 +1,5 @@
 -- The parts one after the other; the sum begins with the count and the address.
-use Rattle.std.proofs.Common.{◌≡◌, refl, arith}
+use Rattle.std.proofs.Common.{◌≡◌, refl}
 use Rattle.text_writing.specs.Lemmas.Writing.{after}
 use Rattle.tape_paper.specs.Grammar.{sum_of}
 use Rattle.tape_paper.specs.Lemmas.Writing.{head_sum}

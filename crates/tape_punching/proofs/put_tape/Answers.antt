@@ -1,4 +1,4 @@
-use Rattle.std.proofs.Common.{◌≡◌, length-drop, ◌<◌, ◌≤◌, ◌++◌, take, min, length, refl, sym, ◌∙◌, eqb-true, arith}
+use Rattle.std.proofs.Common.{◌≡◌, length-drop, ◌<◌, ◌≤◌, ◌++◌, take, min, length, sym, ◌∙◌, eqb-true, arith}
 use Rattle.std.proofs.lemmas.Bool.{eqb-false}
 use Rattle.tape_records.specs.Lemmas.Writing.{less_left}
 use Rattle.tape_records.specs.Grammar.{newline}

@@ -1,5 +1,5 @@
 -- The loop's invariant: the records that are left are still to be written. Before the last one each had 24 bytes.
-use Rattle.std.proofs.Common.{◌≡◌, ◌+◌, ◌*◌, ◌<◌, ◌≤◌, length}
+use Rattle.std.proofs.Common.{◌+◌, ◌*◌, ◌<◌, ◌≤◌, length}
 use Rattle.tape_records.specs.Lemmas.Writing.{Left}
 use Rattle.tape_paper.specs.Grammar.{tape_text}
 use Rattle.tape_punching.specs.Punching.{cut}

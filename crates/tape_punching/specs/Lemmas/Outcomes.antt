@@ -2,7 +2,7 @@
 use Rattle.std.specs.Prelude.{◌≡◌, ℕ, suc, ◌+◌, ◌<◌, ◌≤◌, Bool, true, false, cond, not, List, length, take, drop, ◌-◌, ◌==◌, ◌≢◌, nat_lt}
 use Rattle.std.proofs.Math.Path.{refl}
 use Rattle.std.proofs.Common.{add-one, arith}
-use Rattle.std.proofs.Math.Seq.{slice, length-slice}
+use Rattle.std.proofs.Math.Seq.{length-slice}
 use borrow.Author.Tests.{eq-eqb, ne_eqb, lt-ltb, le-ltb, eqb-true, ltb-false}
 use Rattle.laws.specs.Answers.{not_refused, memory_not_full, first_above_last}
 use Rattle.manual.specs.Stepping.{full_memory}

@@ -1,8 +1,8 @@
 -- Laws of a punched tape, for the proofs of the code: `end` is the address after the stretch.
 use Rattle.std.specs.Prelude.{◌≡◌, ℕ, zero, suc, ◌+◌, ◌-◌, ◌*◌, ◌/◌, ◌%◌, ◌<◌, ◌≤◌, min, Bool, true, false, List, [], ◌∷◌, ◌++◌, length, take, drop, nat_lt, slice_index, refl}
-use Rattle.std.proofs.Common.{ap, ◌∙◌, add-zero, zero-add, suc-add, add-one, arith, length-append, length-take, length-drop, drop_of_length-le, take_all, take-take, drop-drop, take-suc, ltb-true, ltb-false}
+use Rattle.std.proofs.Common.{ap, ◌∙◌, add-zero, zero-add, suc-add, arith, length-append, length-take, length-drop, drop_of_length-le, take_all, take-suc, ltb-true, ltb-false}
 use Rattle.std.proofs.Math.Decide.{dec_lt}
-use Rattle.std.proofs.Math.Seq.{slice, slice-cons, slice_empty, length-slice, take-nil, drop-nil}
+use Rattle.std.proofs.Math.Seq.{slice, take-nil, drop-nil}
 use Rattle.text_writing.specs.Numerals.{hex2}
 use Rattle.tape_records.specs.Records.{total, hexes}
 use Rattle.tape_records.specs.Theorems.Sums.{total_append, hexes_append}

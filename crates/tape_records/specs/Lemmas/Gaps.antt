@@ -6,7 +6,7 @@ use Rattle.laws.specs.Answers.{not_refused, malformed_record}
 use Rattle.tape_records.specs.Records.{separator, only_separators}
 use Rattle.tape_records.specs.Contents.{Item, stop, ended, contents}
 use Rattle.tape_records.specs.Lemmas.Whole.{never}
-use Rattle.tape_records.specs.Inner.Gaps.{gap_length, gap_end}
+use Rattle.tape_records.specs.Inner.Gaps.{gap_length}
 
 -- How many separators a text begins with, in the library's word.
 pub gap_prefix : (l : List ℕ) → prefix_len separator l ≡ gap_length l

@@ -1,5 +1,5 @@
 -- One turn of each loop over a text.
-use Rattle.std.specs.Prelude.{◌≡◌, ℕ, zero, suc, ◌+◌, ◌-◌, ◌*◌, ◌%◌, ◌<◌, ◌≤◌, List, [], ◌∷◌, ◌++◌, length, drop, ◌≢◌, refl}
+use Rattle.std.specs.Prelude.{◌≡◌, ℕ, zero, suc, ◌+◌, ◌-◌, ◌*◌, ◌%◌, ◌<◌, ◌≤◌, List, [], ◌∷◌, ◌++◌, length, drop, ◌≢◌}
 use Rattle.std.proofs.Common.{add-zero, ap, arith}
 use Rattle.text_reading.specs.Numbers.{nowhere, byte_at}
 use Rattle.tape_records.specs.Records.{bytes_of}

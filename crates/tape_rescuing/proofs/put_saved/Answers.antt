@@ -1,4 +1,4 @@
-use Rattle.std.proofs.Common.{Ok, refl, ap, ◌∙◌, arith}
+use Rattle.std.proofs.Common.{Ok, ap, ◌∙◌, arith}
 use Rattle.laws.specs.Answers.{answer_of}
 use Rattle.tape_records.specs.Inner.Items.{told_in}
 use Rattle.tape_rescuing.specs.Lemmas.Worth.{saved_end, saved_other, saved_mark}

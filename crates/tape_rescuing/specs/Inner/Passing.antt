@@ -1,5 +1,5 @@
 -- What one writing of the saved records gives.
-use Rattle.std.specs.Prelude.{ℕ, ◌<◌, ◌≡◌, length}
+use Rattle.std.specs.Prelude.{◌<◌, ◌≡◌, length}
 use Rattle.text_writing.specs.Written.{Writes}
 use Rattle.text_writing.specs.declared.Writer.{Writer}
 use Rattle.tape_paper.specs.Grammar.{tape_text}

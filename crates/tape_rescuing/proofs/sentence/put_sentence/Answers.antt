@@ -1,5 +1,5 @@
 -- By the refusal, and by what was dropped.
-use Rattle.std.proofs.Common.{Ok, eq-eqb, ne_eqb, arith}
+use Rattle.std.proofs.Common.{eq-eqb, ne_eqb}
 use Rattle.tape_rescuing.specs.Sentence.{sentence}
 use Rattle.tape_rescuing.specs.Lemmas.Lengths.{other_refusal}
 use Rattle.tape_rescuing.proofs.sentence.put_sentence.Goals as goal
