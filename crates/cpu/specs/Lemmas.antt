@@ -1,4 +1,5 @@
 pub mod Clock
+pub mod Rounds
 pub mod Travelling
 pub mod Turning
 pub mod Walking

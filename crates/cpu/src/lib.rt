@@ -129,7 +129,7 @@ fn reached(start: Machine, ended: Ended) -> Machine
     }
 }
 
-// At most `bound` steps on a full memory, turn by turn.
+// At most `bound` steps on a full memory, turn by turn. `steps` counts what the turns made, which is no index.
 fn travel(start: Machine, bound: u64, lines: Lines, memory: &mut Memory) -> Ended
     ensures { Gives (run_full bound 0 lines start) memory.old result memory.new }
 {

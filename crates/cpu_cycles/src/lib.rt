@@ -17,7 +17,8 @@ pub fn sure_steps(left: u64) -> u64
 }
 
 // A run that is over when `limit` or more cycles are spent. It is made of runs by steps, so that the loop need not look at the
-// limit: each is of as many as begin before it is spent.
+// limit: each is of as many as begin before it is spent. The loop counts cycles, which is no index. The length is tested here and
+// the slice is lent on, since long_run promises its steps of a slice.
 pub fn run_cycles(machine: Machine, limit: u64, lines: Lines, memory: &mut [u8]) -> Ended
     ensures { Gives (run_cycles (length memory.old) limit lines machine) memory.old result memory.new }
 {

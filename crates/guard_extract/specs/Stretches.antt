@@ -1,9 +1,9 @@
 -- The word that says what is sealed: stretches such as 0400-04FF, a comma between two of them.
-use Rattle.std.specs.Prelude.{ℕ, zero, suc, ◌≡◌, Bool, false, cond, ◌&&◌, ◌||◌, List, [], ◌∷◌, eqb, leb, ltb, length, Option, Some, None}
+use Rattle.std.specs.Prelude.{ℕ, zero, suc, ◌≡◌, Bool, false, cond, ◌&&◌, ◌||◌, List, [], ◌∷◌, eqb, leb, ltb, length, Option, Some, None, Result, Ok, Err}
 use Rattle.text_reading.specs.Numbers.{nowhere, word_at, mark_at}
 use Rattle.guard_maps.specs.Maps.{in_map}
 use Rattle.guard_extract.specs.declared.stretches.Stretch.{Stretch}
-use Rattle.guard_extract.specs.declared.stretches.Spelled.{Spelled}
+use Rattle.guard_extract.specs.declared.stretches.Misspelled.{Misspelled}
 
 -- ---- what is sealed
 
@@ -16,6 +16,13 @@ in_any [] a = false
 in_any (s ∷ l) a = in_stretch s.first s.last a || in_any l a
 
 -- ---- what a word says
+
+-- all of it is stretches, or the place of the first thing that is wrong
+abbrev pub Spelled : Type 0
+Spelled = Result Unit Misspelled
+
+abbrev pub well : Spelled
+well = Ok tt
 
 -- two addresses, a hyphen between them
 unfoldable pub stretch_at : List ℕ → ℕ → Stretch
@@ -38,15 +45,15 @@ place_after word next = cond (eqb next (length word)) next (mark_at 44 word next
 
 -- the stretches from a place on, at most n, or the place of the first thing that is wrong
 unfoldable pub stretches_from : ℕ → List ℕ → ℕ → Spelled × List Stretch
-stretches_from zero word at = (Spelled.Otherwise at, [])
+stretches_from zero word at = (Err (Misspelled.Otherwise at), [])
 stretches_from (suc n) word at =
     let s = stretch_at word at in
     let next = place_after word s.next in
     let more = stretches_from n word next in
-    cond (eqb next nowhere) (Spelled.Otherwise at, [])
-    (cond (ltb s.last s.first) (Spelled.Backwards at, [])
-    (cond (holds_start s.first s.last) (Spelled.AtTheStart at, [])
-    (cond (eqb s.next (length word)) (Spelled.Well, s ∷ []) (more.0, s ∷ more.1))))
+    cond (eqb next nowhere) (Err (Misspelled.Otherwise at), [])
+    (cond (ltb s.last s.first) (Err (Misspelled.Backwards at), [])
+    (cond (holds_start s.first s.last) (Err (Misspelled.AtTheStart at), [])
+    (cond (eqb s.next (length word)) (well, s ∷ []) (more.0, s ∷ more.1))))
 
 -- each takes nine characters, so a word has fewer than it has characters
 abbrev pub stretches : List ℕ → Spelled × List Stretch

@@ -15,11 +15,10 @@ pub struct Stretch {
     pub next: usize,
 }
 
-// How a word is spelled: all of it is stretches, or the place of the first thing that is none, or that runs backwards, or that
-// holds FFFC or FFFD, where a run finds its start.
+// What is wrong with a word: the place of the first thing that is no stretch, or that runs backwards, or that holds FFFC or FFFD,
+// where a run finds its start.
 #[derive(Clone, Copy)]
-pub enum Spelled {
-    Well,
+pub enum Misspelled {
     Otherwise(usize),
     Backwards(usize),
     AtTheStart(usize),
@@ -64,27 +63,27 @@ fn place_after(word: &[u8], next: usize) -> Option<usize>
     read_mark(word, next, b',')
 }
 
-// Puts the stretches of a word into a map, in any order, overlapping or not.
-pub fn read_stretches(word: &[u8], map: &mut Map) -> Spelled
+// Puts the stretches of a word into a map, in any order, overlapping or not; all of them, if the word is nothing else.
+pub fn read_stretches(word: &[u8], map: &mut Map) -> Result<(), Misspelled>
     ensures { Sealing word.now map.old result map.new }
 {
     let mut at: usize = 0;
     loop {
         let Some(stretch) = read_stretch(word, at) else {
-            return Spelled::Otherwise(at);
+            return Err(Misspelled::Otherwise(at));
         };
         let Some(next) = place_after(word, stretch.next) else {
-            return Spelled::Otherwise(at);
+            return Err(Misspelled::Otherwise(at));
         };
         if stretch.last < stretch.first {
-            return Spelled::Backwards(at);
+            return Err(Misspelled::Backwards(at));
         }
         if holds_start(stretch.first, stretch.last) {
-            return Spelled::AtTheStart(at);
+            return Err(Misspelled::AtTheStart(at));
         }
         put_stretch(map, stretch.first, stretch.last);
         if stretch.next == word.len() {
-            return Spelled::Well;
+            return Ok(());
         }
         at = next;
     }
@@ -94,5 +93,7 @@ pub fn read_stretches(word: &[u8], map: &mut Map) -> Spelled
 pub fn stretch_end(text: &[u8]) -> usize
     ensures { result ≤ length text.now }
 {
-    text.iter().position(|byte| *byte == b',').unwrap_or(text.len())
+    text.iter()
+        .position(|byte| *byte == b',')
+        .unwrap_or(text.len())
 }

@@ -144,7 +144,8 @@ fn one_turn(
     }
 }
 
-// At most `bound` steps on numbers, turn by turn. The numbers are again those of the machine that is left.
+// At most `bound` steps on numbers, turn by turn. The numbers are again those of the machine that is left. `total` counts what the
+// turns made, which is no index.
 fn go_on(
     registers: &mut u64,
     cycles: &mut u64,
@@ -220,7 +221,7 @@ pub fn mos6502_long_run(
 }
 
 // A run that is over when `limit` or more cycles are spent, made of runs by steps. Where it makes no step, both numbers stay as
-// they were.
+// they were. The loop counts cycles, which is no index.
 pub fn mos6502_run_cycles(
     registers: &mut u64,
     cycles: &mut u64,

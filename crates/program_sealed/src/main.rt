@@ -33,16 +33,17 @@ use console::{
 use console_ending::say_ending;
 use console_files::{is_same_file, not_written, read_and_test, replace};
 use guard::Guarded;
-use guard_extract::stretches::{Spelled, read_stretches, stretch_end};
+use guard_extract::stretches::{Misspelled, read_stretches, stretch_end};
 use guard_extract::{
     LONGEST_OATH, LONGEST_SEALED_LINE, put_oath, put_sealed_line, run_sealed, sealed_status,
 };
-use guard_maps::{MAP_SIZE, empty_map};
+use guard_maps::{Map, empty_map};
 use image_halted::put_after;
 use manual::FULL_MEMORY;
 use memory::image_buffer;
 use statuses::{Goal, WRONG_USAGE, first_of};
 use text_reading::rest;
+use text_writing::Writer;
 
 // No word that Linux hands to a program is longer.
 const LONGEST_WORD: usize = 131072;
@@ -64,7 +65,9 @@ fn print_line(console: &mut Console, guarded: Guarded)
     ensures { FailureStays console.old.failed console.new.failed }
 {
     let mut text = [0u8; LONGEST_SEALED_LINE];
-    let size = put_sealed_line(&mut text, 0, guarded);
+    let mut out = Writer::new(&mut text);
+    put_sealed_line(&mut out, guarded);
+    let size = out.place();
     console.write_output(&text[..size]);
 }
 
@@ -72,11 +75,8 @@ fn print_line(console: &mut Console, guarded: Guarded)
 fn say_end(console: &mut Console, index: usize, goal: Goal, guarded: Guarded, image: &[u8])
     ensures { FailureStays console.old.failed console.new.failed }
 {
-    match guarded {
-        Guarded::Ran(ended) => {
-            say_ending(console, index, goal, ended, image);
-        }
-        Guarded::Halted(_) => {}
+    if let Ok(ended) = guarded {
+        say_ending(console, index, goal, ended, image);
     }
 }
 
@@ -95,7 +95,9 @@ fn swear(
 {
     say_end(console, index, goal, guarded, image);
     let mut text = [0u8; LONGEST_OATH + LONGEST_WORD];
-    let size = put_oath(&mut text, 0, word, guarded);
+    let mut out = Writer::new(&mut text);
+    put_oath(&mut out, word, guarded);
+    let size = out.place();
     console.say_of(index, &text[..size]);
     sealed_status(goal, guarded)
 }
@@ -107,11 +109,8 @@ fn put_left(file: &mut [u8], goal: Goal, guarded: Guarded) -> usize
     ensures prefix_len { IsPrefixLen result file.new }
 {
     match guarded {
-        Guarded::Ran(ended) => {
-            let machine = ended.machine;
-            put_after(file, goal, machine)
-        }
-        Guarded::Halted(_) => FULL_MEMORY,
+        Ok(ended) => put_after(file, goal, ended.machine),
+        Err(_) => FULL_MEMORY,
     }
 }
 
@@ -120,7 +119,7 @@ fn keep(
     console: &mut Console,
     after: usize,
     work: Work,
-    sealed: &[u8; MAP_SIZE],
+    sealed: &Map,
     input: &[u8],
     status: u8,
     file: &[u8],
@@ -142,7 +141,7 @@ fn seal_file(
     names: Names,
     work: Work,
     word: &[u8],
-    sealed: &[u8; MAP_SIZE],
+    sealed: &Map,
     input: &[u8],
     image: &mut [u8],
 ) -> u8
@@ -177,7 +176,7 @@ fn seal_argument(
     names: Names,
     work: Work,
     word: &[u8],
-    sealed: &[u8; MAP_SIZE],
+    sealed: &Map,
     input: &mut [u8],
     image: &mut [u8],
 ) -> Done
@@ -188,18 +187,15 @@ fn seal_argument(
     let size = read_and_test(console, names, input, image);
     if console.failed != 0 {
         return Done {
-            size: size,
+            size,
             status: console.failed,
         };
     }
     let status = seal_file(console, names, work, word, sealed, &input[..size], image);
-    Done {
-        size: size,
-        status: status,
-    }
+    Done { size, status }
 }
 
-fn seal(rt: HostRuntime, names: Names, work: Work, word: &[u8], sealed: &[u8; MAP_SIZE]) -> u8
+fn seal(rt: HostRuntime, names: Names, work: Work, word: &[u8], sealed: &Map) -> u8
     requires { length word.now ≤ longest_word }
 {
     if is_same_file(rt, names.after, names.image) {
@@ -211,7 +207,7 @@ fn seal(rt: HostRuntime, names: Names, work: Work, word: &[u8], sealed: &[u8; MA
     let mut input = image_buffer();
     let mut image = image_buffer();
     let mut console = Console::new(rt);
-    let done = seal_argument(
+    seal_argument(
         &mut console,
         names,
         work,
@@ -219,11 +215,11 @@ fn seal(rt: HostRuntime, names: Names, work: Work, word: &[u8], sealed: &[u8; MA
         sealed,
         &mut input,
         &mut image,
-    );
-    done.status
+    )
+    .status
 }
 
-fn seal_by_goal(rt: HostRuntime, names: Names, word: &[u8], sealed: &[u8; MAP_SIZE]) -> u8
+fn seal_by_goal(rt: HostRuntime, names: Names, word: &[u8], sealed: &Map) -> u8
     requires { length word.now ≤ longest_word }
 {
     match steps_and_stop(rt, b"sealed", 2) {
@@ -260,15 +256,15 @@ fn seal_by_word(rt: HostRuntime, names: Names) -> u8 {
     let word = argument(rt, 1, &mut text);
     let mut sealed = empty_map();
     match read_stretches(word, &mut sealed) {
-        Spelled::Well => seal_by_goal(rt, names, word, &sealed),
-        Spelled::Otherwise(at) => refuse_stretch(
+        Ok(()) => seal_by_goal(rt, names, word, &sealed),
+        Err(Misspelled::Otherwise(at)) => refuse_stretch(
             rt,
             word,
             at,
             b"\" is no stretch: give FIRST-LAST, as 0400-04FF, and a comma between two\n",
         ),
-        Spelled::Backwards(at) => refuse_stretch(rt, word, at, b"\" runs backwards\n"),
-        Spelled::AtTheStart(at) => refuse_stretch(
+        Err(Misspelled::Backwards(at)) => refuse_stretch(rt, word, at, b"\" runs backwards\n"),
+        Err(Misspelled::AtTheStart(at)) => refuse_stretch(
             rt,
             word,
             at,

@@ -81,6 +81,7 @@ pub fn whole_lines(text: &[u8]) -> usize
     ensures value { result ≡ whole_end text.now }
     ensures upper_bound { result ≤ length text.now }
 {
+    // Not `rposition`: tried, and no law of the library led from its promise to the definition.
     for last in (0..text.len()).rev() {
         if text[last] == b'\n' {
             return last + 1;

@@ -1,3 +1,4 @@
 pub mod Restoring
 pub mod Places
 pub mod Following
+pub mod Equal

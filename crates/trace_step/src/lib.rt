@@ -2,61 +2,23 @@
 #![tactic(auto)]
 
 ghost use Rattle.std.specs.Prelude.{◌≡◌};
-ghost use Rattle.trace_step.specs.Following.{same_registers, same_machine, leads_to, followed};
+ghost use Rattle.trace_step.specs.Following.{leads_to, followed};
 ghost use Rattle.trace_step.specs.Inner.Restoring.{put_back};
 
 use cpu::single_step;
 use footprint::stores_of;
 use manual::{FULL_MEMORY, Lines, Machine, Stepped};
 use memory::{Address, Memory, get_byte, set_byte};
-use registers::{Registers, flag};
 
-// The status is compared as the byte that PHP pushes.
-fn same_registers(one: Registers, other: Registers) -> bool
-    ensures { result ≡ same_registers one other }
-{
-    if one.counter != other.counter {
-        return false;
-    }
-    if one.accumulator != other.accumulator {
-        return false;
-    }
-    if one.x != other.x {
-        return false;
-    }
-    if one.y != other.y {
-        return false;
-    }
-    if one.stack.0 != other.stack.0 {
-        return false;
-    }
-    one.status.pushed() == other.status.pushed()
-}
-
-fn same_machine(one: Machine, other: Machine) -> bool
-    ensures { result ≡ same_machine one other }
-{
-    if one.cycles != other.cycles {
-        return false;
-    }
-    if flag(one.nmi) != flag(other.nmi) {
-        return false;
-    }
-    same_registers(one.registers, other.registers)
-}
-
-// Whether a step was made and leads to a machine.
+// Whether a step was made and leads to a machine. The definition compares the status as the byte that PHP pushes, which tells the six
+// flags.
 fn leads_to(stepped: Stepped, next: Machine) -> bool
     ensures { result ≡ leads_to stepped next }
 {
-    let reason = stepped.reason;
-    if reason.is_made() {
-        return same_machine(stepped.machine, next);
-    }
-    false
+    stepped.reason.is_made() && stepped.machine == next
 }
 
-// Puts a byte at each of the first three places.
+// Puts a byte at each of the first three places. Three lines: a loop over an array of the bytes would be no shorter.
 fn put_back(places: [u16; 5], first: u8, second: u8, third: u8, memory: &mut Memory)
     ensures { memory.new ≡ put_back places first second third memory.old }
 {

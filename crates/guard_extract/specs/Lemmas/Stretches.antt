@@ -1,30 +1,36 @@
 -- Laws that the proofs of stretches.rt cite.
 use Prim.Native.Nat.{ℕ, zero, suc, ◌+◌, ◌-◌, ◌≤◌, ◌<◌}
-use Rattle.std.specs.Prelude.{◌≡◌, Bool, ◌&&◌, ◌||◌, List, [], ◌∷◌, ◌⊎◌, eqb, leb, ltb, get_or, Option, Some, None}
+use Rattle.std.specs.Prelude.{◌≡◌, Bool, ◌&&◌, ◌||◌, List, [], ◌∷◌, ◌⊎◌, eqb, leb, ltb, get_or, Some, None, Err}
 use Rattle.std.proofs.Math.Path.{refl}
 use Rattle.std.proofs.Common.{ap, sym, ◌∙◌, subst, ⊎_elim}
 use Rattle.std.proofs.Math.Bool.{true, false, cond}
 use Rattle.std.proofs.Math.Logic.{inl, inr}
 use Rattle.std.proofs.Math.Decide.{ℕ_discrete, dec_lt}
 use native.Mathlib.Omega.{arith}
-use borrow.Author.Tests.{eq-eqb, ne_eqb, lt-ltb, le-ltb, le-leb, lt-leb}
+use borrow.Author.Tests.{eqb-true, eq-eqb, ne_eqb, lt-ltb, le-ltb, le-leb, lt-leb}
 use Rattle.std.proofs.Math.ListN.{length}
 use Rattle.text_reading.specs.Numbers.{nowhere, digit_value, no_digit, digit_at, byte_at, word_at, mark_at}
-use Rattle.text_reading.specs.declared.Reading.{Reading as Found_at}
-use Rattle.text_reading.specs.Found.{found, place_found}
-use Rattle.text_reading.specs.Lemmas.Found.{some_place}
+use Rattle.text_reading.specs.Found.{place_found}
+use Rattle.text_reading.specs.Lemmas.Found.{none_by, some_by, some_place, gone_place, got_place, somewhere_place}
 use Rattle.guard_maps.specs.Maps.{in_map}
 use Rattle.guard_extract.specs.declared.stretches.Stretch.{Stretch}
-use Rattle.guard_extract.specs.declared.stretches.Spelled.{Spelled}
-use Rattle.guard_extract.specs.Stretches.{in_stretch, in_any, holds_start, stretch_at, place_after, stretches_from, stretches, Sealing}
+use Rattle.guard_extract.specs.declared.stretches.Misspelled.{Misspelled}
+use Rattle.guard_extract.specs.Stretches.{Spelled, well, in_stretch, in_any, holds_start, stretch_at, stretch_found, place_after, stretches_from, stretches, Sealing}
 
--- ---- a stretch of a word, from its parts
+-- ---- a stretch that the code has, or has not
 
-pub stretch_by : (word : List ℕ) (at : ℕ) {first last : Found_at ℕ} {mark : ℕ} → first ≡ word_at word at → mark ≡ mark_at 45 word first.next
-    → last ≡ word_at word mark
-    → record { first = first.value; last = last.value; next = last.next } ≡ stretch_at word at
-unfolding stretch_at
-stretch_by word at e f g = rw (g, f, e)
+module _ (s : Stretch) where
+  pub none_stretch : s.next ≡ nowhere → None ≡ stretch_found s
+  none_stretch h = rw (eq-eqb s.next nowhere h)
+
+  pub some_stretch : (s.next ≡ nowhere → ⊥) → Some s ≡ stretch_found s
+  some_stretch h = rw (ne_eqb s.next nowhere h)
+
+  pub no_stretch_there : None ≡ stretch_found s → s.next ≡ nowhere
+  no_stretch_there e = eqb-true s.next nowhere (none_by s _ (sym e))
+
+  pub got_stretch : {q : Stretch} → Some q ≡ stretch_found s → s ≡ q
+  got_stretch {q} e = (some_by s q _ (sym e)).1
 
 -- ---- the place after it
 
@@ -161,35 +167,30 @@ module _ (word : List ℕ) (long : length word ≤ nowhere) where
 -- ---- the stretches from a place on, by the code's tests
 
 module _ (word : List ℕ) (at : ℕ) where
-  abbrev here : Stretch
-  here = stretch_at word at
-
-  abbrev on : ℕ
-  on = place_after word here.next
-
-  no_stretch : (n : ℕ) → on ≡ nowhere → stretches_from n word at ≡ (Spelled.Otherwise at, [])
+  no_stretch : (n : ℕ) → place_after word (stretch_at word at).next ≡ nowhere → stretches_from n word at ≡ (Err (Misspelled.Otherwise at), [])
   unfolding stretches_from
   no_stretch zero e = refl
   no_stretch (suc n) e = rw (eq-eqb _ _ e)
 
-  module _ (n : ℕ) (f : on ≡ nowhere → ⊥) where
-    backwards : here.last < here.first → stretches_from (suc n) word at ≡ (Spelled.Backwards at, [])
+  module _ {s : Stretch} (is : stretch_at word at ≡ s) (n : ℕ) (f : place_after word s.next ≡ nowhere → ⊥) where
+    backwards : s.last < s.first → stretches_from (suc n) word at ≡ (Err (Misspelled.Backwards at), [])
     unfolding stretches_from
-    backwards l = rw (ne_eqb _ _ f, lt-ltb _ _ l)
+    backwards l = rw (is, ne_eqb _ _ f, lt-ltb _ _ l)
 
-    module _ (l : here.first ≤ here.last) where
-      at_start : holds_start here.first here.last ≡ true → stretches_from (suc n) word at ≡ (Spelled.AtTheStart at, [])
+    module _ (l : s.first ≤ s.last) where
+      at_start : holds_start s.first s.last ≡ true → stretches_from (suc n) word at ≡ (Err (Misspelled.AtTheStart at), [])
       unfolding stretches_from
-      at_start t = rw (ne_eqb _ _ f, le-ltb _ _ l, t)
+      at_start t = rw (is, ne_eqb _ _ f, le-ltb _ _ l, t)
 
-      module _ (t : holds_start here.first here.last ≡ false) where
-        last_one : here.next ≡ length word → stretches_from (suc n) word at ≡ (Spelled.Well, here ∷ [])
+      module _ (t : holds_start s.first s.last ≡ false) where
+        last_one : s.next ≡ length word → stretches_from (suc n) word at ≡ (well, s ∷ [])
         unfolding stretches_from
-        last_one e = rw (ne_eqb _ _ f, le-ltb _ _ l, t, eq-eqb _ _ e)
+        last_one e = rw (is, ne_eqb _ _ f, le-ltb _ _ l, t, eq-eqb _ _ e)
 
-        one_more : (here.next ≡ length word → ⊥) → let more = stretches_from n word on in stretches_from (suc n) word at ≡ (more.0, here ∷ more.1)
+        one_more : (s.next ≡ length word → ⊥)
+            → let more = stretches_from n word (place_after word s.next) in stretches_from (suc n) word at ≡ (more.0, s ∷ more.1)
         unfolding stretches_from
-        one_more g = rw (ne_eqb _ _ f, le-ltb _ _ l, t, ne_eqb _ _ g)
+        one_more g = rw (is, ne_eqb _ _ f, le-ltb _ _ l, t, ne_eqb _ _ g)
 
 -- ---- the loop
 
@@ -203,7 +204,7 @@ pub record Reading (word map₀ : List ℕ) (at : ℕ) (map : List ℕ) : Type 0
 pub begins : (word map : List ℕ) → Reading word map 0 map
 begins word map = record { allowed = length word; enough = omega arith; told = refl; added = λ a. refl }
 
-module _ (word map₀ : List ℕ) (at : ℕ) (map : List ℕ) (r : Reading word map₀ at map) where
+module _ (word map₀ : List ℕ) (at : ℕ) (map : List ℕ) (r : Reading word map₀ at map) (long : length word ≤ nowhere) where
   -- it ends there, with nothing more
   ends : (x : Spelled) → stretches_from r.allowed word at ≡ (x, []) → Sealing word map₀ x map
   ends x e = record {
@@ -211,58 +212,73 @@ module _ (word map₀ : List ℕ) (at : ℕ) (map : List ℕ) (r : Reading word 
     added = λ a. or_none (in_map map a) ∙ sym (r.added a ∙ ap (λ (w : Spelled × List Stretch). in_map map a || in_any w.1 a) e);
   }
 
-  pub ends_otherwise : on word at ≡ nowhere → Sealing word map₀ (Spelled.Otherwise at) map
-  ends_otherwise e = ends (Spelled.Otherwise at) (no_stretch word at r.allowed e)
+  pub ends_missing : None ≡ stretch_found (stretch_at word at) → Sealing word map₀ (Err (Misspelled.Otherwise at)) map
+  ends_missing e =
+      ends (Err (Misspelled.Otherwise at)) (no_stretch word at r.allowed (ap (place_after word) (no_stretch_there (stretch_at word at) e) ∙ after_nowhere word long))
 
-  module _ (long : length word ≤ nowhere) (f : on word at ≡ nowhere → ⊥) where
-    abbrev s : Stretch
-    s = stretch_at word at
+  module _ {s : Stretch} (found : Some s ≡ stretch_found (stretch_at word at)) where
+    is : stretch_at word at ≡ s
+    is = got_stretch (stretch_at word at) found
 
-    moved : (at < s.next) × (s.next ≤ length word)
-    moved = ⊎_elim (λ e. absurd (f (ap (place_after word) e ∙ after_nowhere word long))) (λ m. m) (stretch_moves word long at)
+    pub ends_otherwise : None ≡ place_found (place_after word s.next) → Sealing word map₀ (Err (Misspelled.Otherwise at)) map
+    ends_otherwise e =
+        ends (Err (Misspelled.Otherwise at)) (no_stretch word at r.allowed (ap (λ (t : Stretch). place_after word t.next) is ∙ gone_place (place_after word s.next) e))
 
-    one : r.allowed ≡ suc (r.allowed - 1)
-    one = omega (arith, moved, r.enough)
+    module _ {next : ℕ} (on : Some next ≡ place_found (place_after word s.next)) where
+      goes : place_after word s.next ≡ next
+      goes = got_place (place_after word s.next) on
 
-    abbrev from : ℕ → Spelled × List Stretch
-    from n = stretches_from n word at
+      there : place_after word s.next ≡ nowhere → ⊥
+      there = somewhere_place (place_after word s.next) on
 
-    pub ends_backwards : s.last < s.first → Sealing word map₀ (Spelled.Backwards at) map
-    ends_backwards l = ends (Spelled.Backwards at) (ap from one ∙ backwards word at (r.allowed - 1) f l)
+      moved : (at < s.next) × (s.next ≤ length word)
+      moved =
+          ⊎_elim (λ e. absurd (there (ap (place_after word) e ∙ after_nowhere word long))) (λ m. m)
+          (subst (λ (t : Stretch). Moves word long at t.next) is (stretch_moves word long at))
 
-    module _ (l : s.first ≤ s.last) where
-      pub ends_at_start : holds_start s.first s.last ≡ true → Sealing word map₀ (Spelled.AtTheStart at) map
-      ends_at_start t = ends (Spelled.AtTheStart at) (ap from one ∙ at_start word at (r.allowed - 1) f l t)
+      one : r.allowed ≡ suc (r.allowed - 1)
+      one = omega (arith, moved, r.enough)
 
-      module _ (t : holds_start s.first s.last ≡ false) (after : List ℕ)
-          (put : (a : ℕ) → in_map after a ≡ (in_map map a || in_stretch s.first s.last a)) where
-        pub ends_well : s.next ≡ length word → Sealing word map₀ Spelled.Well after
-        ends_well e =
-            let so = ap from one ∙ last_one word at (r.allowed - 1) f l t e in
-            record {
-              told = sym (r.told ∙ ap (λ (w : Spelled × List Stretch). w.0) so);
-              added = λ a.
-                  put a
-                  ∙ ap (λ (u : Bool). in_map map a || u) (or_none (in_stretch s.first s.last a))
-                  ∙ sym (r.added a ∙ ap (λ (w : Spelled × List Stretch). in_map map a || in_any w.1 a) so);
-            }
+      abbrev from : ℕ → Spelled × List Stretch
+      from n = stretches_from n word at
 
-        -- the next stretch stands at a later place of the word
-        pub later : (s.next ≡ length word → ⊥) → (at < on word at) × (on word at ≤ length word)
-        later g =
-            let m = ⊎_elim (λ e. absurd (f e)) (λ (m : (s.next < on word at) × (on word at ≤ length word)). m) (after_moves word long s.next g) in
-            (omega (arith, m, moved), m.1)
+      pub ends_backwards : s.last < s.first → Sealing word map₀ (Err (Misspelled.Backwards at)) map
+      ends_backwards l = ends (Err (Misspelled.Backwards at)) (ap from one ∙ backwards word at is (r.allowed - 1) there l)
 
-        pub goes_on_lem : (s.next ≡ length word → ⊥) → Reading word map₀ (on word at) after
-        goes_on_lem g =
-            let so = ap from one ∙ one_more word at (r.allowed - 1) f l t g in
-            record {
-              allowed = r.allowed - 1;
-              enough = omega (arith, later g, moved, r.enough);
-              told = r.told ∙ ap (λ (w : Spelled × List Stretch). w.0) so;
-              added = λ a.
-                  r.added a
-                  ∙ ap (λ (w : Spelled × List Stretch). in_map map a || in_any w.1 a) so
-                  ∙ or_assoc (in_map map a) (in_stretch s.first s.last a) _
-                  ∙ ap (λ (u : Bool). u || in_any (stretches_from (r.allowed - 1) word (on word at)).1 a) (sym (put a));
-            }
+      module _ (l : s.first ≤ s.last) where
+        pub ends_at_start : holds_start s.first s.last ≡ true → Sealing word map₀ (Err (Misspelled.AtTheStart at)) map
+        ends_at_start t = ends (Err (Misspelled.AtTheStart at)) (ap from one ∙ at_start word at is (r.allowed - 1) there l t)
+
+        module _ (t : holds_start s.first s.last ≡ false) (after : List ℕ)
+            (put : (a : ℕ) → in_map after a ≡ (in_map map a || in_stretch s.first s.last a)) where
+          pub ends_well : s.next ≡ length word → Sealing word map₀ well after
+          ends_well e =
+              let so = ap from one ∙ last_one word at is (r.allowed - 1) there l t e in
+              record {
+                told = sym (r.told ∙ ap (λ (w : Spelled × List Stretch). w.0) so);
+                added = λ a.
+                    put a
+                    ∙ ap (λ (u : Bool). in_map map a || u) (or_none (in_stretch s.first s.last a))
+                    ∙ sym (r.added a ∙ ap (λ (w : Spelled × List Stretch). in_map map a || in_any w.1 a) so);
+              }
+
+          module _ (g : s.next ≡ length word → ⊥) where
+            -- the next stretch stands at a later place of the word
+            pub later : (at < next) × (next ≤ length word)
+            later =
+                let m = ⊎_elim (λ e. absurd (there e)) (λ (m : (s.next < place_after word s.next) × (place_after word s.next ≤ length word)). m) (after_moves word long s.next g) in
+                (omega (arith, m, moved, goes), omega (arith, m.1, goes))
+
+            pub goes_on_lem : Reading word map₀ next after
+            goes_on_lem =
+                let so = ap from one ∙ one_more word at is (r.allowed - 1) there l t g in
+                subst (λ (n : ℕ). Reading word map₀ n after) goes (record {
+                  allowed = r.allowed - 1;
+                  enough = omega (arith, later, goes, moved, r.enough);
+                  told = r.told ∙ ap (λ (w : Spelled × List Stretch). w.0) so;
+                  added = λ a.
+                      r.added a
+                      ∙ ap (λ (w : Spelled × List Stretch). in_map map a || in_any w.1 a) so
+                      ∙ or_assoc (in_map map a) (in_stretch s.first s.last a) _
+                      ∙ ap (λ (u : Bool). u || in_any (stretches_from (r.allowed - 1) word (place_after word s.next)).1 a) (sym (put a));
+                })

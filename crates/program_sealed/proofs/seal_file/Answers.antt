@@ -14,7 +14,7 @@ pub keep-requires-clause-status_value : goal.keep-requires-clause-status_value
 keep-requires-clause-status_value c =
     let status = status_of_lem (in_map c.args.sealed.now) c.args.work c.args.input.now c.args.image.now c.requires.image_value.0 c.run_sealed-guarded.ensures c.run_sealed-guarded.auto.image in
     let file = file_of (in_map c.args.sealed.now) c.args.work c.args.input.now c.args.image.now c.requires.image_value.0 c.run_sealed-guarded.ensures c.run_sealed-guarded.auto.image in
-    let none = none_noted c.swear-status.new.failed c.swear-status.result (sym c.first_of.ensures ∙ c.if-first_of-ne0.false) in
+    let none = none_noted c.swear-status.new.console.failed c.swear-status.result (sym c.first_of.ensures ∙ c.if-first_of-ne0.false) in
     let zero = sym c.swear-status.ensures.value ∙ none.1 in
     (none.1, sym status ∙ zero, file zero c.put_left-after_size.ensures.file_after)
 

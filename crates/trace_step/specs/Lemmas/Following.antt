@@ -93,7 +93,7 @@ follows s next m m' h =
     )
 
 -- and if it does, it follows
-itself : (s : Machine) → same_machine s s ≡ true
+pub itself : (s : Machine) → same_machine s s ≡ true
 unfolding same_machine same_registers
 itself s =
     rw (

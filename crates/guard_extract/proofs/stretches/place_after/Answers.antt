@@ -1,7 +1,7 @@
 -- By the code's test.
-use Rattle.std.proofs.Common.{rules, arith, ◌≡◌, ◌≤◌, length, ◌∙◌, ap}
+use Rattle.std.proofs.Common.{arith, ◌∙◌, ap}
 use Rattle.text_reading.specs.Found.{place_found}
-use Rattle.guard_extract.specs.Lemmas.Stretches.{at_end, at_mark, end_found}
+use Rattle.guard_extract.specs.Lemmas.Stretches.{at_mark, end_found}
 use Rattle.guard_extract.proofs.stretches.place_after.Goals as goal
 
 pub returns-then-next-word : goal.returns-then-next-word
