@@ -89,7 +89,6 @@ impl Console {
         let mut shown = [0u8; LONGEST_WORD];
         let mut out = Writer::new(&mut shown);
         put_input_name(self.rt, &mut out, index);
-        let size = out.place();
         let mut word = [0u8; LONGEST_WORD];
         let name = argument(self.rt, index, &mut word);
         if name.is_empty() {
@@ -97,7 +96,7 @@ impl Console {
             self.say(b"the name of an input is empty or too long\n");
             return None;
         }
-        self.open_file(name, &shown[..size])
+        self.open_file(name, out.text())
     }
 
     // Reads until the buffer is full or the input ends. Each read takes as many bytes as come, so that no `for` counts them.
@@ -132,8 +131,7 @@ impl Console {
         let mut shown = [0u8; LONGEST_WORD];
         let mut out = Writer::new(&mut shown);
         put_input_name(self.rt, &mut out, index);
-        let length = out.place();
-        let size = self.read_from(&mut input, &shown[..length], buffer);
+        let size = self.read_from(&mut input, out.text(), buffer);
         close_input(input);
         size
     }

@@ -56,8 +56,7 @@ impl Console {
         let mut text = [0u8; LONGEST_WORD];
         let mut name = Writer::new(&mut text);
         put_input_name(self.rt, &mut name, index);
-        let size = name.place();
-        self.say(&text[..size]);
+        self.say(name.text());
         self.say(b": ");
         self.say(sentence);
     }

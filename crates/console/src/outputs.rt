@@ -79,6 +79,5 @@ pub fn hand_over(status: u8) {
     let mut text = [0u8; LONGEST_STATUS];
     let mut out = Writer::new(&mut text);
     put_status(&mut out, status);
-    let size = out.place();
-    io::write_all(STATUS_FILENO, &text[..size]);
+    io::write_all(STATUS_FILENO, out.text());
 }
