@@ -96,13 +96,7 @@ fn goes_on(size: usize, whole: usize, ended: bool, refusal: Option<Refusal>) -> 
     requires { whole ≤ size }
     ensures { result ≡ another ended size whole (answer_in refusal) }
 {
-    if ended || MOST_HELD < size - whole {
-        return false;
-    }
-    match refusal {
-        None => true,
-        Some(_) => false,
-    }
+    !ended && size - whole <= MOST_HELD && refusal.is_none()
 }
 
 // What a part shows, after so many entries.
