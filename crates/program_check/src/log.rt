@@ -30,8 +30,8 @@ const NOTHING: Found = Found {
     last: None,
 };
 
-// The same after a part, how much is kept for the next one, and whether there is one. No enum: the other two are promised
-// in either case.
+// The same after a part, how much is kept for the next one, and whether there is one. A flag and no enum: the
+// other two are promised whether there is a next part or not.
 #[derive(Clone, Copy)]
 struct Turn {
     found: Found,

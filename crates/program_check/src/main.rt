@@ -168,6 +168,7 @@ fn check_on(console: &mut Console, image: usize, log: usize, copy: &mut [u8]) ->
 
 // Checks a log on the image, which is read again for each, and notes the status: of several logs the first that is not 0
 // stays. The image is left in `input` as it was read, and the log is checked on a copy; the answer is its size.
+// By a reference and no `Done`: the promise is of the status that was there before.
 fn check_argument(
     console: &mut Console,
     image: usize,

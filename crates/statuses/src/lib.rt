@@ -65,6 +65,7 @@ pub fn check_status(lines: u64, faults: u64) -> u8
 
 // The status of a tape that was rescued: 0 only if nothing was dropped and a reader takes the old tape too. Otherwise the
 // rescue's answer number, 21 if something was dropped, or the reader's answer: a record that is missing was not dropped.
+// Answer numbers: its definition, and that of `log_status`, are over numbers, which are the exit statuses.
 pub fn rescue_status(answer: u8, dropped: u64, read: u8) -> u8
     ensures { result ≡ rescue_status answer dropped read }
 {
