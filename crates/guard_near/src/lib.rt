@@ -73,6 +73,7 @@ impl<'a> Near<'a> {
         ensures { result.guards ≡ guards.entry }
     {
         let mut all: u8 = 0;
+        // By index: the same place of both maps.
         for i in 0..64 {
             all |= guards.reads[i] | guards.stores[i];
         }

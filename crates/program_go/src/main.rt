@@ -52,6 +52,7 @@ fn print_line(console: &mut Console, ended: Ended)
 }
 
 // Keeps a file that a run left. `input` is what was read: only if its status is 0, and only what the definition says.
+// The goal and the steps are two parameters, and no struct: the definition `go_status` takes both.
 fn keep(
     console: &mut Console,
     after: usize,
