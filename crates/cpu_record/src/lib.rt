@@ -37,6 +37,6 @@ pub fn step_by_record(mut machine: Machine, lines: Lines, memory: &mut [u8]) -> 
     Stepped {
         reason: answer.reason,
         first: answer.first,
-        machine: machine,
+        machine,
     }
 }

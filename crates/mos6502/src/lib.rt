@@ -1,4 +1,5 @@
-// The core on numbers. A host in C or Rust calls it by the archive of `mos6502_c`; a step by itself is in `mos6502_step`.
+// The core on numbers. A host in C or Rust calls it by the archive of `mos6502_c`; a step by itself is in `mos6502_step`. The numbers
+// travel one by one, since the C interface hands them over so.
 #![tactic(auto)]
 
 ghost use Rattle.std.specs.Prelude.{◌≡◌, true, ◌<◌};

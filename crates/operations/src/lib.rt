@@ -1,4 +1,5 @@
-// What each class of instruction does that does not use the stack, after execute_instruction of cpu.rs.
+// What each class of instruction does that does not use the stack, after execute_instruction of cpu.rs. Registers, mode and memory stay
+// three parameters: the memory is lent, to some to read and to others to write, and a struct of them would be two.
 #![tactic(auto)]
 
 ghost use Rattle.std.specs.Prelude.{◌≡◌};

@@ -1,5 +1,6 @@
 // The instructions that use the stack: subroutines, interrupts, pushes and pulls, after execute_instruction of cpu.rs; and the
-// service of a line.
+// service of a line. Registers, mode and memory stay three parameters: the memory is lent, to some to read and to others to write,
+// and a struct of them would be two.
 #![tactic(auto)]
 
 mod bytes; // bytes.rt: a byte and an address on the stack
