@@ -85,7 +85,7 @@ fn go_file(
 {
     let opened = open(input);
     let size = opened.size;
-    let ended = run_from(console, opened.start, steps, &mut image[..size]);
+    let ended = run_from(console.rt, opened.start, steps, &mut image[..size]);
     wipe_progress(console.rt);
     print_line(console, ended);
     let status = say_ending(console, names.image, goal, ended, &image[..size]);
