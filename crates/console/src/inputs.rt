@@ -21,7 +21,7 @@ pub struct Done {
     pub status: u8,
 }
 
-// An input that is open.
+// An input that is open. An enum and no Box<dyn Read>: the project has no heap, and a dyn value may not be handed out.
 #[derive(Drop)]
 pub enum Input {
     Standard(Stdin),
@@ -137,7 +137,7 @@ impl Console {
     }
 
     // Reads the input that an argument names, and puts it into a second buffer too, for whoever works on it there and has to
-    // know afterwards what was read.
+    // know afterwards what was read. Two slices with a clause on their lengths: the callers' public functions ask for no more.
     pub fn read_two(&mut self, index: usize, input: &mut [u8], copy: &mut [u8]) -> usize
         requires { length input.old ≤ length copy.old }
         ensures prefix_len { IsPrefixLen result input.new }

@@ -11,6 +11,8 @@ use text_writing::Writer;
 const STATUS_FILENO: i32 = 3;
 
 // The system, and the first status that says that something failed there: 0 before there is one.
+// A number and no Option: `first_of` of statuses, which the programs promise, is over numbers. That a failure stays is said by
+// each function: no invariant speaks of before and after.
 #[derive(Drop)]
 pub struct Console {
     pub rt: HostRuntime,
