@@ -89,6 +89,7 @@ pub fn names_from(rt: HostRuntime, from: usize) -> Option<usize>
 // Where the only name stands among the arguments from an index on: it may be missing, but there is no second.
 pub fn name_from(rt: HostRuntime, from: usize) -> Option<usize>
     requires { from ≤ 255 }
+    ensures { IfSome result (λ index. index ≤ from + 1) }
 {
     let index = names_from(rt, from)?;
     (argument_count(rt) <= index + 1).then_some(index)

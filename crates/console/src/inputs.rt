@@ -21,7 +21,7 @@ pub struct Done {
     pub status: u8,
 }
 
-// An input that is open.
+// An input that is open. An enum and no Box<dyn Read>: the project has no heap, and a dyn value may not be handed out.
 #[derive(Drop)]
 pub enum Input {
     Standard(Stdin),
@@ -89,7 +89,6 @@ impl Console {
         let mut shown = [0u8; LONGEST_WORD];
         let mut out = Writer::new(&mut shown);
         put_input_name(self.rt, &mut out, index);
-        let size = out.place();
         let mut word = [0u8; LONGEST_WORD];
         let name = argument(self.rt, index, &mut word);
         if name.is_empty() {
@@ -97,7 +96,7 @@ impl Console {
             self.say(b"the name of an input is empty or too long\n");
             return None;
         }
-        self.open_file(name, &shown[..size])
+        self.open_file(name, out.text())
     }
 
     // Reads until the buffer is full or the input ends. Each read takes as many bytes as come, so that no `for` counts them.
@@ -132,14 +131,13 @@ impl Console {
         let mut shown = [0u8; LONGEST_WORD];
         let mut out = Writer::new(&mut shown);
         put_input_name(self.rt, &mut out, index);
-        let length = out.place();
-        let size = self.read_from(&mut input, &shown[..length], buffer);
+        let size = self.read_from(&mut input, out.text(), buffer);
         close_input(input);
         size
     }
 
     // Reads the input that an argument names, and puts it into a second buffer too, for whoever works on it there and has to
-    // know afterwards what was read.
+    // know afterwards what was read. Two slices with a clause on their lengths: the callers' public functions ask for no more.
     pub fn read_two(&mut self, index: usize, input: &mut [u8], copy: &mut [u8]) -> usize
         requires { length input.old ≤ length copy.old }
         ensures prefix_len { IsPrefixLen result input.new }

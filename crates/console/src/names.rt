@@ -27,7 +27,7 @@ pub fn put_printed(out: &mut Writer, name: &[u8])
     }
 }
 
-// Puts an argument so.
+// Puts an argument as it is printed.
 pub fn put_name(rt: HostRuntime, out: &mut Writer, index: usize)
     ensures writes_name { WritesName out.old out.new }
     ensures upper_bound { out.new.at ≤ out.old.at + 4096 }
@@ -56,8 +56,7 @@ impl Console {
         let mut text = [0u8; LONGEST_WORD];
         let mut name = Writer::new(&mut text);
         put_input_name(self.rt, &mut name, index);
-        let size = name.place();
-        self.say(&text[..size]);
+        self.say(name.text());
         self.say(b": ");
         self.say(sentence);
     }

@@ -11,6 +11,8 @@ use text_writing::Writer;
 const STATUS_FILENO: i32 = 3;
 
 // The system, and the first status that says that something failed there: 0 before there is one.
+// A number and no Option: `first_of` of statuses, which the programs promise, is over numbers. That a failure stays is said by
+// each function: no invariant speaks of before and after.
 #[derive(Drop)]
 pub struct Console {
     pub rt: HostRuntime,
@@ -79,6 +81,5 @@ pub fn hand_over(status: u8) {
     let mut text = [0u8; LONGEST_STATUS];
     let mut out = Writer::new(&mut text);
     put_status(&mut out, status);
-    let size = out.place();
-    io::write_all(STATUS_FILENO, &text[..size]);
+    io::write_all(STATUS_FILENO, out.text());
 }

@@ -30,8 +30,7 @@ fn fail(console: &mut Console, index: usize, error: Error)
     let mut room = [0u8; LONGEST_NAME];
     let mut shown = Writer::new(&mut room);
     put_name(console.rt, &mut shown, index);
-    let size = shown.place();
-    say_why(console.rt, &room[..size], error);
+    say_why(console.rt, shown.text(), error);
     console.note_failure(FAILED);
 }
 

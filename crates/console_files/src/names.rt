@@ -27,6 +27,7 @@ fn link_start(name: &[u8], text: &[u8]) -> usize {
 
 // One step along a link, whose text is known, from the name that stands at the start of `name`: how long the name is after it.
 // One that does not fit has no characters.
+// A buffer and a size, and no String: the project has no heap. Only the system's own answer is on it.
 fn step_to(name: &mut [u8], size: usize, text: &[u8]) -> usize
     requires { size ≤ length name.old }
     ensures { result ≤ length name.new }

@@ -1,5 +1,5 @@
 // The run, with its lines.
-ghost use Rattle.std.specs.Prelude.{◌≤◌, ◌≡◌, length};
+ghost use Rattle.std.specs.Prelude.{◌≤◌, ◌≡◌, false, length};
 ghost use Rattle.manual.specs.Micro.{Gives};
 ghost use Rattle.image_run.specs.Report.{long_image_run};
 ghost use Rattle.console.specs.Failing.{FailureStays};
@@ -22,6 +22,8 @@ impl Parts for View {
     const STEPS: u64 = 1000;
 
     ghost STEPS = { 1000 };
+
+    ghost quiet = { false };
 
     // A part of a run, with its lines.
     fn make(&self, console: &mut Console, machine: Machine, bound: u64, image: &mut [u8]) -> Ended {

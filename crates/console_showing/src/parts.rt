@@ -1,6 +1,6 @@
 // A run that is made part by part, so that whoever waits sees how far it is: all parts together are the whole run (the theorems
 // `lunch` and `in_parts`).
-ghost use Rattle.std.specs.Prelude.{ℕ, ◌<◌, ◌≤◌, ◌≡◌, length};
+ghost use Rattle.std.specs.Prelude.{Bool, ℕ, ◌<◌, ◌≤◌, ◌≡◌, length, true};
 ghost use Rattle.manual.specs.Micro.{Gives};
 ghost use Rattle.manual.specs.Interrupts.{idle};
 ghost use Rattle.manual.specs.Stepping.{long_run};
@@ -16,11 +16,15 @@ pub trait Parts {
 
     ghost STEPS: { ℕ };
 
+    // Whether nothing can fail there.
+    ghost quiet: { Bool };
+
     // Makes a part of so many steps at most. What fails there is noted.
     fn make(&self, console: &mut Console, machine: Machine, bound: u64, image: &mut [u8]) -> Ended
         requires { bound ≤ STEPS }
         ensures gives { Gives (long_run (length image.old) bound idle machine) image.old result image.new }
-        ensures failure_stays { FailureStays console.old.failed console.new.failed };
+        ensures failure_stays { FailureStays console.old.failed console.new.failed }
+        ensures none_fails { quiet ≡ true → console.new.failed ≡ console.old.failed };
 
     // Tells how many steps are made.
     fn tell(&self, rt: HostRuntime, made: u64);
@@ -37,6 +41,7 @@ pub fn run_in_parts<P: Parts>(
     requires { 0 < P.STEPS }
     ensures gives { console.new.failed ≡ 0 → Gives (long_run (length image.old) steps idle start) image.old result image.new }
     ensures failure_stays { FailureStays console.old.failed console.new.failed }
+    ensures none_fails { P.quiet ≡ true → console.new.failed ≡ console.old.failed }
 {
     let mut machine = start;
     let mut made: u64 = 0;

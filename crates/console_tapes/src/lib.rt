@@ -36,8 +36,7 @@ pub fn say_verdict(console: &mut Console, index: usize, format: Format, verdict:
     let mut text = [0u8; LONGEST_SENTENCE];
     let mut out = Writer::new(&mut text);
     put_sentence(&mut out, format, verdict);
-    let size = out.place();
-    console.say_of(index, &text[..size]);
+    console.say_of(index, out.text());
 }
 
 // Says of a text that is refused from its start on whether it is one for the other program.

@@ -8,7 +8,7 @@ use guard_maps::{Guards, Map, empty_map, is_in};
 use manual::{Ended, FULL_MEMORY, Lines, Machine, Reason};
 use memory::Memory;
 
-// Puts zeros at the addresses of a map.
+// Puts zeros at the addresses of a map. By index: after `iter_mut` a proof knows no element.
 pub fn blank(sealed: &Map, memory: &mut Memory)
     ensures { memory.new ≡ blanked (in_map sealed.now) memory.old }
 {

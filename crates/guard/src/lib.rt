@@ -179,6 +179,7 @@ pub fn guarded_part(
 {
     let mut machine = start;
     let mut steps: u64 = made;
+    // A loop and no `for`: each turn says itself how many steps it made.
     while steps < bound {
         let far = steps + reach(lines.irq, fitting(bound - steps, machine.cycles));
         let ended = turn(machine, steps, far, lines, guards, memory)?;

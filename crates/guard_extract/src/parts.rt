@@ -13,7 +13,8 @@ use memory::Memory;
 // Few enough that the line at the terminal is renewed several times a second.
 const PART: u64 = 5000000;
 
-// A run of at most `steps` steps, with idle lines and some addresses guarded against reads.
+// A run of at most `steps` steps, with idle lines and some addresses guarded against reads. Not by `run_in_parts`: its parts
+// count from the start of the run, and one of these may be halted.
 pub(crate) fn guard_on(
     rt: HostRuntime,
     start: Machine,

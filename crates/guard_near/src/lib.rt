@@ -15,7 +15,8 @@ use memory::{Address, Memory, ZeroPage, get_byte, join};
 use registers::Registers;
 
 // Where the step of an opcode may reach, besides its own bytes: nowhere; to the byte that a mode leads to, with its pointer; to
-// the stack; or to somewhere else, which is not looked into here.
+// the stack; or to somewhere else, which is not looked into here. Footprint's `Target` has no word for the stack's ways, and a Target inside would be a
+// second match in the guard's loop.
 #[derive(Clone, Copy)]
 enum Region {
     Nowhere,
@@ -72,6 +73,7 @@ impl<'a> Near<'a> {
         ensures { result.guards ≡ guards.entry }
     {
         let mut all: u8 = 0;
+        // By index: the same place of both maps.
         for i in 0..64 {
             all |= guards.reads[i] | guards.stores[i];
         }

@@ -89,6 +89,7 @@ pub fn run_to(start: Machine, stop: u16, bound: u64, lines: Lines, memory: &mut 
     };
     let mut machine = start;
     let mut steps: u64 = 0;
+    // A loop and no `for`: each turn may make several steps.
     while steps < bound {
         if is_at(machine, stop) {
             return Ended::new(Reason::Made, steps, machine);

@@ -10,6 +10,7 @@ use registers::{Registers, Status, flag};
 
 // A, X, Y, S and the status as PHP pushes it in a byte each from the lowest on, then the counter, and bit 56 if the level
 // was low. Unpacked again it is the same.
+// Functions and no From: both types stand elsewhere, and the definitions have these names.
 pub fn pack(registers: Registers, nmi: bool) -> u64
     ensures value { result ≡ packed registers nmi }
     ensures result_value { (unpacked result ≡ registers) × (unpacked_nmi result ≡ nmi) }

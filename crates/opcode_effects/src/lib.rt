@@ -80,6 +80,7 @@ pub fn finish(row: Row) -> Option<Performed>
                 first: pending.first,
             })
         }
+        // Two arms: one for both would have to be told which it is.
         Row::Subtracting(pending) => {
             let before = pending.registers;
             let after = subtract_with_carry(before.kept_apart(), pending.value);

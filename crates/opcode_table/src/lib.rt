@@ -12,6 +12,7 @@ mod names; // names.rt: the names of the operations
 
 pub use names::name_of;
 
+// Numbers in arrays, and no enum values or `Option`: docs/RULES.md names the form, constant arrays of 256 codes and cycles.
 // The operation of each opcode, by number; 255 if the opcode is not defined.
 const OPERATIONS: [u8; 256] = *b"\
     \x0A\x22\xFF\xFF\xFF\x22\x02\xFF\x24\x22\x02\xFF\xFF\x22\x02\xFF\

@@ -7,6 +7,7 @@ ghost use Rattle.opcode_table.specs.Inner.NameTable.{names as NameTable·names};
 use crate::table;
 
 // Three letters for each operation, by number.
+// By number, and no `match` on the operation: docs/RULES.md names the form, a constant table of 56 three-byte names.
 const NAMES: [[u8; 3]; 56] = [
     *b"ADC", *b"AND", *b"ASL", *b"BCC", *b"BCS", *b"BEQ", *b"BIT", *b"BMI", *b"BNE", *b"BPL",
     *b"BRK", *b"BVC", *b"BVS", *b"CLC", *b"CLD", *b"CLI", *b"CLV", *b"CMP", *b"CPX", *b"CPY",

@@ -30,8 +30,8 @@ const NOTHING: Found = Found {
     last: None,
 };
 
-// The same after a part, how much is kept for the next one, and whether there is one. No enum: the other two are promised
-// in either case.
+// The same after a part, how much is kept for the next one, and whether there is one. A flag and no enum: the
+// other two are promised whether there is a next part or not.
 #[derive(Clone, Copy)]
 struct Turn {
     found: Found,
@@ -96,13 +96,7 @@ fn goes_on(size: usize, whole: usize, ended: bool, refusal: Option<Refusal>) -> 
     requires { whole ≤ size }
     ensures { result ≡ another ended size whole (answer_in refusal) }
 {
-    if ended || MOST_HELD < size - whole {
-        return false;
-    }
-    match refusal {
-        None => true,
-        Some(_) => false,
-    }
+    !ended && size - whole <= MOST_HELD && refusal.is_none()
 }
 
 // What a part shows, after so many entries.

@@ -28,7 +28,7 @@ use console::{Console, argument_count, argument_is, hand_over, names_from, refus
 use console_ending::say_refused;
 use laws::answers::{MEMORY_NOT_FULL, Refusal};
 use log::{Found, check_log};
-use manual::{Ended, Machine};
+use manual::{Ended, FULL_MEMORY, Machine};
 use memory::image_buffer;
 use sentences::{LONGEST_SENTENCE, put_sentence};
 use statuses::{Goal, first_of, log_status};
@@ -156,7 +156,7 @@ fn check_on(console: &mut Console, image: usize, log: usize, copy: &mut [u8]) ->
     if console.failed != 0 {
         return console.failed;
     }
-    if copy.len() != 65536 {
+    if copy.len() != FULL_MEMORY {
         return refuse_image(console, image, copy);
     }
     let found = check_log(console, log, copy);
@@ -168,6 +168,7 @@ fn check_on(console: &mut Console, image: usize, log: usize, copy: &mut [u8]) ->
 
 // Checks a log on the image, which is read again for each, and notes the status: of several logs the first that is not 0
 // stays. The image is left in `input` as it was read, and the log is checked on a copy; the answer is its size.
+// By a reference and no `Done`: the promise is of the status that was there before.
 fn check_argument(
     console: &mut Console,
     image: usize,

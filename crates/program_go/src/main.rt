@@ -52,6 +52,7 @@ fn print_line(console: &mut Console, ended: Ended)
 }
 
 // Keeps a file that a run left. `input` is what was read: only if its status is 0, and only what the definition says.
+// The goal and the steps are two parameters, and no struct: the definition `go_status` takes both.
 fn keep(
     console: &mut Console,
     after: usize,
@@ -84,7 +85,7 @@ fn go_file(
 {
     let opened = open(input);
     let size = opened.size;
-    let ended = run_from(console, opened.start, steps, &mut image[..size]);
+    let ended = run_from(console.rt, opened.start, steps, &mut image[..size]);
     wipe_progress(console.rt);
     print_line(console, ended);
     let status = say_ending(console, names.image, goal, ended, &image[..size]);

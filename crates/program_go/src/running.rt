@@ -1,8 +1,9 @@
 // The run of a file: where it begins, and what its parts are.
-ghost use Rattle.std.specs.Prelude.{◌≡◌, length};
+ghost use Rattle.std.specs.Prelude.{length, true};
 ghost use Rattle.manual.specs.Micro.{Gives};
+ghost use Rattle.manual.specs.Interrupts.{idle};
+ghost use Rattle.manual.specs.Stepping.{long_run};
 ghost use Rattle.image_run.specs.Report.{long_image_run};
-ghost use Rattle.console.specs.Failing.{FailureStays};
 ghost use Rattle.program_go.specs.Runs.{run_from};
 
 use console::{Console, show_progress};
@@ -19,6 +20,8 @@ impl Parts for Unseen {
     const STEPS: u64 = 10000000;
 
     ghost STEPS = { 10000000 };
+
+    ghost quiet = { true };
 
     // A part of a run, with idle lines.
     fn make(
@@ -37,26 +40,32 @@ impl Parts for Unseen {
     }
 }
 
-fn run_image(console: &mut Console, steps: u64, image: &mut [u8]) -> Ended
-    ensures gives { console.new.failed ≡ 0 → Gives (long_image_run steps (length image.old)) image.old result image.new }
-    ensures failure_stays { FailureStays console.old.failed console.new.failed }
+// A run of at most `steps` steps, with idle lines. Nothing fails there, so that none of it is broken off.
+fn run_on(rt: HostRuntime, start: Machine, steps: u64, image: &mut [u8]) -> Ended
+    ensures { Gives (long_run (length image.old) steps idle start) image.old result image.new }
+{
+    let mut console = Console::new(rt);
+    run_in_parts(&Unseen, &mut console, start, steps, image)
+}
+
+fn run_image(rt: HostRuntime, steps: u64, image: &mut [u8]) -> Ended
+    ensures { Gives (long_image_run steps (length image.old)) image.old result image.new }
 {
     let machine = start_image(image);
-    run_in_parts(&Unseen, console, machine, steps, image)
+    run_on(rt, machine, steps, image)
 }
 
 // A run of at most `steps` steps from where a file begins, with idle lines.
 pub(crate) fn run_from(
-    console: &mut Console,
+    rt: HostRuntime,
     start: Option<Machine>,
     steps: u64,
     image: &mut [u8],
 ) -> Ended
-    ensures gives { console.new.failed ≡ 0 → Gives (run_from start steps (length image.old)) image.old result image.new }
-    ensures failure_stays { FailureStays console.old.failed console.new.failed }
+    ensures { Gives (run_from start steps (length image.old)) image.old result image.new }
 {
     match start {
-        Some(machine) => run_in_parts(&Unseen, console, machine, steps, image),
-        None => run_image(console, steps, image),
+        Some(machine) => run_on(rt, machine, steps, image),
+        None => run_image(rt, steps, image),
     }
 }

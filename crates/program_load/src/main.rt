@@ -93,6 +93,7 @@ fn load_onto(
 {
     let verdict = read_text(tape, image);
     explain(console, names, tape, verdict, before);
+    // A number: one test asks for the console's failure and the tape's, as `first_of` has them.
     let (answer, _) = number_and_reach(verdict);
     if first_of(console.failed, answer) != 0 {
         return not_written(console, names.after, answer);

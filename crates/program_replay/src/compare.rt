@@ -11,7 +11,7 @@ use mos6502_numbers::lines_from;
 use registers::{Registers, Status, flag};
 use replay_list::State;
 
-// The first field in which a step and its text line differ.
+// The first field in which a step and its text line differ. `Same` is a variant and no None: the definition `compared` names it.
 #[derive(Clone, Copy, PartialEq, Eq)]
 pub(crate) enum Verdict {
     Same,
@@ -88,7 +88,7 @@ fn compare(machine: Machine, lines: Lines, state: State, same: bool) -> Verdict
     }
 }
 
-// Whether two memories hold the same bytes.
+// Whether two memories hold the same bytes: by name, for its two clauses, which the proof of `judge` needs.
 fn same(memory: &Memory, expected: &Memory) -> bool
     ensures alike { result ≡ true → memory.now ≡ expected.now }
     ensures told { memory.now ≡ expected.now → result ≡ true }

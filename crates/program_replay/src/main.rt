@@ -62,6 +62,7 @@ const LONGEST_DIFFERENCE: usize = 39;
 const LONGEST_TALLY: usize = 65;
 
 // Names a line that differs, and answers 1 for it.
+// A number and no bool: it is what the tally counts.
 fn tell(console: &mut Console, line: u64, verdict: Verdict) -> u64
     ensures value { result ≡ faults verdict }
     ensures upper_bound { result ≤ 1 }
@@ -90,7 +91,7 @@ fn replay(console: &mut Console, text: &[u8]) -> Tally
     let mut at = 0;
     let mut lines = 0;
     let mut differ = 0;
-    // From line to line, and not by an index: no `for` is plainer.
+    // No `for`: the next place is where the line ends.
     while at < text.len() {
         lines += 1;
         let verdict = replay_line(text, at, &mut memory, &mut expected);

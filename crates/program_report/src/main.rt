@@ -47,6 +47,7 @@ fn put_after(rt: HostRuntime, out: &mut Writer, index: usize)
 }
 
 // Writes a line of so many characters, with the name after it if there are several.
+// A text and its size, and no Writer: the name goes over the line's LF.
 fn write_line(console: &mut Console, index: usize, several: bool, text: &mut [u8], size: usize)
     requires { (0 < size) × (size ≤ longest_line) × (length text.old ≡ longest_named) }
     ensures { FailureStays console.old.failed console.new.failed }

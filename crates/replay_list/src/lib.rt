@@ -38,6 +38,7 @@ struct Cell {
     next: usize,
 }
 
+// A space and a byte. As `read_field` of trace_line: each promises the definition of its own format.
 fn read_spaced_byte(text: &[u8], at: usize) -> Option<Reading<u8>>
     ensures { result ≡ found (spaced_byte_at text.now at) }
 {

@@ -6,7 +6,7 @@ ghost use Rattle.text_writing.specs.Written.{Writes};
 ghost use Rattle.statuses.specs.Statuses.{reached as Statuses·reached, end_status, check_status, rescue_status, log_status, first_of, status_line, longest_status};
 
 use laws::answers::*;
-use manual::{Ended, FULL_MEMORY};
+use manual::{Ended, FULL_MEMORY, Reason};
 use text_writing::Writer;
 
 // The statuses that are no answer number.
@@ -36,7 +36,7 @@ pub fn reached(goal: Goal, ended: Ended) -> bool
     match goal {
         Goal::Unnamed => false,
         Goal::At(address) => {
-            u8::from(ended.reason) == NOT_AN_OPCODE && ended.machine.registers.counter == address
+            ended.reason == Reason::NotAnOpcode && ended.machine.registers.counter == address
         }
         Goal::AllSteps => ended.reason.is_made(),
     }
@@ -50,10 +50,10 @@ pub fn end_status(goal: Goal, ended: Ended) -> u8
     if reached(goal, ended) {
         return 0;
     }
-    match u8::from(ended.reason) {
-        NOT_REFUSED => STILL_RUNNING,
-        number => number,
+    if ended.reason.is_made() {
+        return STILL_RUNNING;
     }
+    u8::from(ended.reason)
 }
 
 // The status of a list that was checked: 0 if it has a line and no fault.
@@ -65,6 +65,7 @@ pub fn check_status(lines: u64, faults: u64) -> u8
 
 // The status of a tape that was rescued: 0 only if nothing was dropped and a reader takes the old tape too. Otherwise the
 // rescue's answer number, 21 if something was dropped, or the reader's answer: a record that is missing was not dropped.
+// Answer numbers: its definition, and that of `log_status`, are over numbers, which are the exit statuses.
 pub fn rescue_status(answer: u8, dropped: u64, read: u8) -> u8
     ensures { result ≡ rescue_status answer dropped read }
 {

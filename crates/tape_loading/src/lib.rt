@@ -67,7 +67,7 @@ pub struct Fault {
 // What a text was found to be.
 pub type Verdict = Result<Reach, Fault>;
 
-// What a host in C is told of a verdict: the answer, and how far the text is good.
+// The numbers of a verdict, as C and the programs' statuses have them: the answer, and how far the text is good.
 pub fn number_and_reach(verdict: Verdict) -> (u8, Reach)
     ensures { result ≡ number_and_reach verdict }
 {
@@ -87,7 +87,8 @@ fn refuse(reason: Refusal, good: u64, place: usize) -> Verdict
     })
 }
 
-// What comes next in a text: a data record, with the place of its data and that at which the text goes on, or none.
+// What comes next in a text: a data record, with the place of its data and that at which the text goes on, or none. The
+// end is a verdict and no Err: it is good if the end record is.
 #[derive(Clone, Copy)]
 pub enum Next {
     Data {

@@ -22,8 +22,8 @@ pub struct Moved {
     pub size: usize,
 }
 
-// What a host in C is told of a move: the answer, the length of the new text, 0 if it is refused, and how far the given one is
-// good. The answer is 10 if that is good and the buffer is too short.
+// The numbers of a move, as C and the programs' statuses have them: the answer, the length of the new text, 0 if it is refused,
+// and how far the given one is good. The answer is 10 if that is good and the buffer is too short.
 pub fn numbers_of(moved: Result<Moved, Fault>) -> (u8, usize, Reach)
     ensures { result ≡ numbers_of moved }
 {

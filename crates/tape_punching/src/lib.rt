@@ -59,6 +59,7 @@ fn put_tape(out: &mut Writer, first: u16, stretch: &[u8])
     let mut rest = stretch;
     let mut address = first as usize;
     let mut records: u16 = 0;
+    // A loop and no `chunks`: the invariant is over the rest, as the definition `cut` is.
     while !rest.is_empty() {
         let size = rest.len().min(24);
         put_record(out, address as u16, &rest[..size]);

@@ -51,7 +51,7 @@ pub struct Parts {
     pub last: u16,
 }
 
-// What stands where a record has to begin, if it is good.
+// What stands where a record has to begin, if it is good. An enum and no Option: `End` says what None would not.
 #[derive(Clone, Copy)]
 pub enum Item {
     Data(Head),

@@ -34,7 +34,7 @@ pub struct Rescued {
     pub tally: Tally,
 }
 
-// What a host in C is told of a rescue: the answer, and the numbers, all 0 if it is refused.
+// The numbers of a rescue, as C and the programs' statuses have them: the answer, and the counts, all 0 if it is refused.
 pub fn numbers_of(rescued: Result<Rescued, Refusal>) -> (u8, Rescued)
     ensures { result ≡ numbers_of rescued }
 {
@@ -54,7 +54,7 @@ pub fn numbers_of(rescued: Result<Rescued, Refusal>) -> (u8, Rescued)
     }
 }
 
-// What begins here, by itself: an end record's number is held against itself.
+// The record that begins here, whatever stands before it: an end record's number is not compared with a count.
 fn read_worth(text: &[u8]) -> Result<Item, Refusal>
     ensures { told_in result ≡ told (worth (record_of 59 text.now)) }
 {
@@ -87,6 +87,7 @@ fn put_saved(out: &mut Writer, text: &[u8]) -> Tally
     let mut kept: u64 = 0;
     let mut dropped: u64 = 0;
     let mut first = text.len();
+    // By index: the place itself is told, and the rest of the text begins there.
     for at in 0..text.len() {
         if text[at] != b';' {
             continue;

@@ -1,5 +1,6 @@
 // Readers of a text: digits, the numbers made of them, and marks. Every reader is handed a text and a place in it, and answers
 // what it read there and where the text goes on; none if the text has something else.
+// A text and a place, and no cursor: where a reader finds nothing, its caller goes on from the place that it had.
 #![tactic(auto)]
 
 ghost use Rattle.std.specs.Prelude.{◌≡◌, ◌≤◌, ◌<◌, cond, eqb, length, drop, IfSome, Some, None};

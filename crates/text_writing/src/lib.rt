@@ -1,5 +1,6 @@
 // Text written into a lent buffer. What does not fit is dropped, and the place after the text is the same: so none needs room, and
 // the length of a text is the place after it on any buffer. If a text ends past the largest usize, that is the place.
+// Methods over bytes and no Display: no promise can be given of what a formatter writes.
 #![tactic(auto)]
 
 ghost use Rattle.std.specs.Prelude.{◌≡◌, ◌≤◌, length};
@@ -18,7 +19,7 @@ pub struct Writer<'a> {
     ghost bounded: { (length out.now ≤ 18446744073709551615) × (at ≤ 18446744073709551615) },
 }
 
-// The number of the answer to what may be refused.
+// The answer number of what may be refused: 0 if it is not.
 pub fn answer_in(refusal: Option<Refusal>) -> u8
     ensures { result ≡ answer_in refusal }
 {

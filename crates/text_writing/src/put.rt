@@ -1,5 +1,5 @@
 // What a writer writes.
-ghost use Rattle.std.specs.Prelude.{◌≡◌, [], ◌∷◌, ◌<◌};
+ghost use Rattle.std.specs.Prelude.{◌≡◌, [], ◌∷◌, ◌<◌, take};
 ghost use Rattle.text_writing.specs.Written.{Writes};
 ghost use Rattle.text_writing.specs.Numerals.{digit as Numerals·digit, hex2, hex4, decimal, spaced};
 
@@ -39,6 +39,13 @@ impl<'a> Writer<'a> {
         ensures { result ≡ self.now.at }
     {
         self.at
+    }
+
+    // The text before the place, as far as the buffer holds it.
+    pub fn text(&self) -> &[u8]
+        ensures { result.now ≡ take self.now.at self.now.out.now }
+    {
+        &self.out[..self.at.min(self.out.len())]
     }
 
     // One character.

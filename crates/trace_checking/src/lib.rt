@@ -29,6 +29,7 @@ pub struct Bad {
 }
 
 // Whether a state may stand in the next entry; if so, the step to it is made.
+// A match and no `is_none_or`: the step overwrites the memory.
 fn accept(last: Option<Machine>, next: Machine, copy: &mut [u8]) -> bool
     ensures { (result, copy.new) ≡ accepted last next copy.old }
 {

@@ -50,7 +50,7 @@ fn read_cycles(text: &[u8]) -> Option<Reading<u64>>
     }
 }
 
-// A space and a byte.
+// A space and a byte. As `read_spaced_byte` of replay_list: each promises the definition of its own format.
 fn read_field(text: &[u8], at: usize) -> Option<Reading<u8>>
     ensures { result ≡ found (field_at text.now at) }
 {

@@ -7,7 +7,8 @@ mod finding; // finding.rt: the sentence
 pub use entry::put_entry;
 pub use finding::{LONGEST_FINDING, LONGEST_VERDICT, put_finding, put_verdict};
 
-// What is shown of a run: the states, from the one that it starts with, or the steps and their cycles.
+// What is shown of a run: the states, from the one that it starts with, or the steps and their cycles. An
+// enum and no trait: the definitions `trace` and `longest` are over it.
 #[derive(Clone, Copy)]
 pub enum View {
     States,

@@ -18,6 +18,7 @@ loop-made-preserved g c =
       search rules,
       rw same (turn _ _ _ _ _ _ c.loop-made.invariant.2 (omega arith) c.make-ended.ensures.gives (search rules) (was_made _ (sym c.is_made.ensures ∙ c.if-not-is_made.false))),
       stays_on c.loop-made.invariant.3 c.make-ended.ensures.failure_stays,
+      λ q. c.make-ended.ensures.none_fails q ∙ c.loop-made.invariant.4 q,
     )
 
 pub overflow_add-result-2 : goal.overflow_add-result-2

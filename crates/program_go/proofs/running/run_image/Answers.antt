@@ -4,6 +4,6 @@ use Rattle.manual.proofs.Lemmas.StepLaws.{long_short}
 use Rattle.image_run.specs.Lemmas.Report.{started}
 use Rattle.program_go.proofs.running.run_image.Goals as goal
 
-pub returns-clause-gives : goal.returns-clause-gives
-returns-clause-gives c = λ z.
-    started _ _ (λ s other. long_short _ _ _ s _ other) ∙ rw c.start_image-machine.ensures at (c.run_in_parts.ensures.gives z)
+pub returns : goal.returns
+returns c =
+    started _ _ (λ s other. long_short _ _ _ s _ other) ∙ rw c.start_image-machine.ensures at c.run_on.ensures
