@@ -30,8 +30,7 @@ impl Parts for View {
         let mut text = [0u8; LONGEST_PART];
         let mut out = Writer::new(&mut text);
         let ended = put_steps(&mut out, *self, machine, bound, image);
-        let size = out.place();
-        console.write_output(&text[..size]);
+        console.write_output(out.text());
         ended
     }
 
@@ -52,8 +51,7 @@ fn write_start(console: &mut Console, view: View, machine: Machine, length: usiz
         let mut text = [0u8; LONGEST_LINE];
         let mut out = Writer::new(&mut text);
         put_line(&mut out, machine);
-        let size = out.place();
-        console.write_output(&text[..size]);
+        console.write_output(out.text());
     }
 }
 

@@ -46,8 +46,7 @@ fn write_verdict(console: &mut Console, refusal: Option<Refusal>, line: u64, rig
     let mut text = [0u8; LONGEST_VERDICT];
     let mut out = Writer::new(&mut text);
     put_verdict(&mut out, refusal, line, right);
-    let size = out.place();
-    console.write_output(&text[..size]);
+    console.write_output(out.text());
 }
 
 fn say_finding(console: &mut Console, index: usize, refusal: Option<Refusal>, number: u64)
@@ -56,8 +55,7 @@ fn say_finding(console: &mut Console, index: usize, refusal: Option<Refusal>, nu
     let mut text = [0u8; LONGEST_FINDING];
     let mut out = Writer::new(&mut text);
     put_finding(&mut out, refusal, number);
-    let size = out.place();
-    console.say_of(index, &text[..size]);
+    console.say_of(index, out.text());
 }
 
 // Why no step can be made from the last line, where none can be.
@@ -70,8 +68,7 @@ fn say_stuck(console: &mut Console, index: usize, ended: Ended, copy: &[u8])
     let mut text = [0u8; LONGEST_SENTENCE];
     let mut out = Writer::new(&mut text);
     put_sentence(&mut out, Goal::Unnamed, ended, copy);
-    let size = out.place();
-    console.say_of(index, &text[..size]);
+    console.say_of(index, out.text());
 }
 
 // The line that would have followed; where no step can be made, a sentence says why.
@@ -90,8 +87,7 @@ fn show_right(
         let ended = put_steps(&mut out, View::States, machine, 1, copy);
         say_stuck(console, index, ended, copy);
     }
-    let size = out.place();
-    write_verdict(console, Some(Refusal::StrayEntry), line, &right[..size]);
+    write_verdict(console, Some(Refusal::StrayEntry), line, out.text());
 }
 
 // What is shown of a log that is not accepted.

@@ -47,8 +47,7 @@ fn print_line(console: &mut Console, ended: Ended)
     let mut text = [0u8; LONGEST_LINE];
     let mut out = Writer::new(&mut text);
     put_line(&mut out, ended);
-    let size = out.place();
-    console.write_output(&text[..size]);
+    console.write_output(out.text());
 }
 
 // Keeps a file that a run left. `input` is what was read: only if its status is 0, and only what the definition says.

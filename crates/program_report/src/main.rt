@@ -55,8 +55,7 @@ fn write_line(console: &mut Console, index: usize, several: bool, text: &mut [u8
     if several {
         let mut out = Writer::from(text, size - 1);
         put_after(console.rt, &mut out, index);
-        let end = out.place();
-        console.write_output(&text[..end]);
+        console.write_output(out.text());
     } else {
         console.write_output(&text[..size]);
     }

@@ -39,8 +39,7 @@ fn explain(console: &mut Console, index: usize, rescued: Result<Rescued, Refusal
     let mut text = [0u8; LONGEST_SENTENCE];
     let mut out = Writer::new(&mut text);
     put_sentence(&mut out, rescued, verdict.err().map(|fault| fault.reason));
-    let size = out.place();
-    console.say_of(index, &text[..size]);
+    console.say_of(index, out.text());
     match (rescued, verdict) {
         (
             Ok(

@@ -39,8 +39,7 @@ fn print_line(console: &mut Console, verdict: Verdict, rescued: Result<Rescued, 
     let mut text = [0u8; LONGEST_LINE];
     let mut out = Writer::new(&mut text);
     put_line(&mut out, verdict, rescued);
-    let size = out.place();
-    console.write_output(&text[..size]);
+    console.write_output(out.text());
 }
 
 fn rescue_for_counts(tape: &[u8]) -> Result<Rescued, Refusal> {
