@@ -89,6 +89,7 @@ impl Console {
         let mut shown = [0u8; LONGEST_WORD];
         let mut out = Writer::new(&mut shown);
         put_input_name(self.rt, &mut out, index);
+        let size = out.place();
         let mut word = [0u8; LONGEST_WORD];
         let name = argument(self.rt, index, &mut word);
         if name.is_empty() {
@@ -96,7 +97,7 @@ impl Console {
             self.say(b"the name of an input is empty or too long\n");
             return None;
         }
-        self.open_file(name, out.text())
+        self.open_file(name, &shown[..size])
     }
 
     // Reads until the buffer is full or the input ends. Each read takes as many bytes as come, so that no `for` counts them.
@@ -131,7 +132,8 @@ impl Console {
         let mut shown = [0u8; LONGEST_WORD];
         let mut out = Writer::new(&mut shown);
         put_input_name(self.rt, &mut out, index);
-        let size = self.read_from(&mut input, out.text(), buffer);
+        let length = out.place();
+        let size = self.read_from(&mut input, &shown[..length], buffer);
         close_input(input);
         size
     }

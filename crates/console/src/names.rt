@@ -56,7 +56,8 @@ impl Console {
         let mut text = [0u8; LONGEST_WORD];
         let mut name = Writer::new(&mut text);
         put_input_name(self.rt, &mut name, index);
-        self.say(name.text());
+        let size = name.place();
+        self.say(&text[..size]);
         self.say(b": ");
         self.say(sentence);
     }

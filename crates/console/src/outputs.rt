@@ -81,5 +81,6 @@ pub fn hand_over(status: u8) {
     let mut text = [0u8; LONGEST_STATUS];
     let mut out = Writer::new(&mut text);
     put_status(&mut out, status);
-    io::write_all(STATUS_FILENO, out.text());
+    let size = out.place();
+    io::write_all(STATUS_FILENO, &text[..size]);
 }

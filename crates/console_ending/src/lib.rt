@@ -20,7 +20,8 @@ pub fn say_ending(console: &mut Console, index: usize, goal: Goal, ended: Ended,
     let mut text = [0u8; LONGEST_SENTENCE];
     let mut out = Writer::new(&mut text);
     put_sentence(&mut out, goal, ended, image);
-    console.say_of(index, out.text());
+    let size = out.place();
+    console.say_of(index, &text[..size]);
     end_status(goal, ended)
 }
 
@@ -31,5 +32,6 @@ pub fn say_refused(console: &mut Console, index: usize, image: &[u8])
     let mut text = [0u8; LONGEST_SENTENCE];
     let mut out = Writer::new(&mut text);
     put_refused(&mut out, image);
-    console.say_of(index, out.text());
+    let size = out.place();
+    console.say_of(index, &text[..size]);
 }

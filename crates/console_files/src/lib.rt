@@ -30,7 +30,8 @@ fn fail(console: &mut Console, index: usize, error: Error)
     let mut room = [0u8; LONGEST_NAME];
     let mut shown = Writer::new(&mut room);
     put_name(console.rt, &mut shown, index);
-    say_why(console.rt, shown.text(), error);
+    let size = shown.place();
+    say_why(console.rt, &room[..size], error);
     console.note_failure(FAILED);
 }
 

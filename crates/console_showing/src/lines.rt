@@ -30,7 +30,8 @@ impl Parts for View {
         let mut text = [0u8; LONGEST_PART];
         let mut out = Writer::new(&mut text);
         let ended = put_steps(&mut out, *self, machine, bound, image);
-        console.write_output(out.text());
+        let size = out.place();
+        console.write_output(&text[..size]);
         ended
     }
 
@@ -51,7 +52,8 @@ fn write_start(console: &mut Console, view: View, machine: Machine, length: usiz
         let mut text = [0u8; LONGEST_LINE];
         let mut out = Writer::new(&mut text);
         put_line(&mut out, machine);
-        console.write_output(out.text());
+        let size = out.place();
+        console.write_output(&text[..size]);
     }
 }
 

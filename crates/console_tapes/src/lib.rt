@@ -36,7 +36,8 @@ pub fn say_verdict(console: &mut Console, index: usize, format: Format, verdict:
     let mut text = [0u8; LONGEST_SENTENCE];
     let mut out = Writer::new(&mut text);
     put_sentence(&mut out, format, verdict);
-    console.say_of(index, out.text());
+    let size = out.place();
+    console.say_of(index, &text[..size]);
 }
 
 // Says of a text that is refused from its start on whether it is one for the other program.

@@ -196,7 +196,8 @@ pub(crate) fn check_log(console: &mut Console, index: usize, copy: &mut [u8]) ->
             let mut name = [0u8; 4096];
             let mut out = Writer::new(&mut name);
             put_input_name(console.rt, &mut out, index);
-            let found = check_from(console, &mut log, out.text(), copy);
+            let size = out.place();
+            let found = check_from(console, &mut log, &name[..size], copy);
             wipe_progress(console.rt);
             close_input(log);
             found

@@ -46,7 +46,8 @@ fn write_verdict(console: &mut Console, refusal: Option<Refusal>, line: u64, rig
     let mut text = [0u8; LONGEST_VERDICT];
     let mut out = Writer::new(&mut text);
     put_verdict(&mut out, refusal, line, right);
-    console.write_output(out.text());
+    let size = out.place();
+    console.write_output(&text[..size]);
 }
 
 fn say_finding(console: &mut Console, index: usize, refusal: Option<Refusal>, number: u64)
@@ -55,7 +56,8 @@ fn say_finding(console: &mut Console, index: usize, refusal: Option<Refusal>, nu
     let mut text = [0u8; LONGEST_FINDING];
     let mut out = Writer::new(&mut text);
     put_finding(&mut out, refusal, number);
-    console.say_of(index, out.text());
+    let size = out.place();
+    console.say_of(index, &text[..size]);
 }
 
 // Why no step can be made from the last line, where none can be.
@@ -68,7 +70,8 @@ fn say_stuck(console: &mut Console, index: usize, ended: Ended, copy: &[u8])
     let mut text = [0u8; LONGEST_SENTENCE];
     let mut out = Writer::new(&mut text);
     put_sentence(&mut out, Goal::Unnamed, ended, copy);
-    console.say_of(index, out.text());
+    let size = out.place();
+    console.say_of(index, &text[..size]);
 }
 
 // The line that would have followed; where no step can be made, a sentence says why.
@@ -87,7 +90,8 @@ fn show_right(
         let ended = put_steps(&mut out, View::States, machine, 1, copy);
         say_stuck(console, index, ended, copy);
     }
-    write_verdict(console, Some(Refusal::StrayEntry), line, out.text());
+    let size = out.place();
+    write_verdict(console, Some(Refusal::StrayEntry), line, &right[..size]);
 }
 
 // What is shown of a log that is not accepted.

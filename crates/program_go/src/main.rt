@@ -47,7 +47,8 @@ fn print_line(console: &mut Console, ended: Ended)
     let mut text = [0u8; LONGEST_LINE];
     let mut out = Writer::new(&mut text);
     put_line(&mut out, ended);
-    console.write_output(out.text());
+    let size = out.place();
+    console.write_output(&text[..size]);
 }
 
 // Keeps a file that a run left. `input` is what was read: only if its status is 0, and only what the definition says.

@@ -77,7 +77,8 @@ fn tell(console: &mut Console, line: u64, verdict: Verdict) -> u64
     out.put_decimal(line);
     out.put_text(b": ");
     out.put_text(word_of(verdict));
-    console.write_output(out.text());
+    let size = out.place();
+    console.write_output(&text[..size]);
     1
 }
 
@@ -111,7 +112,8 @@ fn conclude(console: &mut Console, tally: Tally) -> u8
     out.put_text(b" steps replayed, ");
     out.put_decimal(tally.differ);
     out.put_text(b" differ\n");
-    console.write_output(out.text());
+    let size = out.place();
+    console.write_output(&text[..size]);
     first_of(console.failed, check_status(tally.lines, tally.differ))
 }
 

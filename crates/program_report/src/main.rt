@@ -55,7 +55,8 @@ fn write_line(console: &mut Console, index: usize, several: bool, text: &mut [u8
     if several {
         let mut out = Writer::from(text, size - 1);
         put_after(console.rt, &mut out, index);
-        console.write_output(out.text());
+        let end = out.place();
+        console.write_output(&text[..end]);
     } else {
         console.write_output(&text[..size]);
     }

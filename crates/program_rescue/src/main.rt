@@ -39,7 +39,8 @@ fn explain(console: &mut Console, index: usize, rescued: Result<Rescued, Refusal
     let mut text = [0u8; LONGEST_SENTENCE];
     let mut out = Writer::new(&mut text);
     put_sentence(&mut out, rescued, verdict.err().map(|fault| fault.reason));
-    console.say_of(index, out.text());
+    let size = out.place();
+    console.say_of(index, &text[..size]);
     match (rescued, verdict) {
         (
             Ok(

@@ -39,7 +39,8 @@ fn print_line(console: &mut Console, verdict: Verdict, rescued: Result<Rescued, 
     let mut text = [0u8; LONGEST_LINE];
     let mut out = Writer::new(&mut text);
     put_line(&mut out, verdict, rescued);
-    console.write_output(out.text());
+    let size = out.place();
+    console.write_output(&text[..size]);
 }
 
 fn rescue_for_counts(tape: &[u8]) -> Result<Rescued, Refusal> {

@@ -1,5 +1,5 @@
 // What a writer writes.
-ghost use Rattle.std.specs.Prelude.{◌≡◌, [], ◌∷◌, ◌<◌, take};
+ghost use Rattle.std.specs.Prelude.{◌≡◌, [], ◌∷◌, ◌<◌};
 ghost use Rattle.text_writing.specs.Written.{Writes};
 ghost use Rattle.text_writing.specs.Numerals.{digit as Numerals·digit, hex2, hex4, decimal, spaced};
 
@@ -34,18 +34,12 @@ impl<'a> Writer<'a> {
         Writer { out, at: 0 }
     }
 
-    // The place after what was written: the length of the text, if it began at the start.
+    // The place after what was written: the length of the text, if it began at the start. Whoever hands the text on cuts it off the
+    // buffer there, where it is proved that all of it fitted; a method that gave what is there would cut a longer one short.
     pub fn place(&self) -> usize
         ensures { result ≡ self.now.at }
     {
         self.at
-    }
-
-    // The text before the place, as far as the buffer holds it.
-    pub fn text(&self) -> &[u8]
-        ensures { result.now ≡ take self.now.at self.now.out.now }
-    {
-        &self.out[..self.at.min(self.out.len())]
     }
 
     // One character.
