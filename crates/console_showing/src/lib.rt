@@ -18,24 +18,25 @@ mod parts; // parts.rt: a run that is made part by part
 
 pub use parts::{Parts, run_in_parts};
 
+// What is shown of a run, where it is meant to end, and how many steps it may make.
+#[derive(Clone, Copy)]
+pub struct Showing {
+    pub view: View,
+    pub goal: Goal,
+    pub count: u64,
+}
+
 // Shows the run of an image, says how it ended, and answers its status. If its lines cannot be written nothing is said of it.
-fn show_image(
-    console: &mut Console,
-    index: usize,
-    view: View,
-    goal: Goal,
-    count: u64,
-    image: &mut [u8],
-) -> u8
-    ensures value { result ≡ first_of console.new.failed (run_status goal count image.old) }
+fn show_image(console: &mut Console, index: usize, showing: Showing, image: &mut [u8]) -> u8
+    ensures value { result ≡ first_of console.new.failed (run_status showing.goal showing.count image.old) }
     ensures failure_stays { FailureStays console.old.failed console.new.failed }
 {
-    let ended = show_run(console, view, count, image);
+    let ended = show_run(console, showing.view, showing.count, image);
     wipe_progress(console.rt);
     if console.failed != 0 {
         return console.failed;
     }
-    let status = say_ending(console, index, goal, ended, image);
+    let status = say_ending(console, index, showing.goal, ended, image);
     first_of(console.failed, status)
 }
 
@@ -44,14 +45,12 @@ fn show_image(
 fn show_argument(
     console: &mut Console,
     index: usize,
-    view: View,
-    goal: Goal,
-    count: u64,
+    showing: Showing,
     input: &mut [u8],
     image: &mut [u8],
 ) -> Done
     requires { length input.old ≤ length image.old }
-    ensures status_value { result.status ≡ first_of console.new.failed (run_status goal count (take result.size input.new)) }
+    ensures status_value { result.status ≡ first_of console.new.failed (run_status showing.goal showing.count (take result.size input.new)) }
     ensures failure_stays { FailureStays console.old.failed console.new.failed }
 {
     let size = console.read_two(index, input, image);
@@ -61,25 +60,16 @@ fn show_argument(
             status: console.failed,
         };
     }
-    let status = show_image(console, index, view, goal, count, &mut image[..size]);
+    let status = show_image(console, index, showing, &mut image[..size]);
     Done { size, status }
 }
 
 // The same, with room for the image.
-pub fn show_input(rt: HostRuntime, index: usize, view: View, goal: Goal, count: u64) -> u8 {
+pub fn show_input(rt: HostRuntime, index: usize, showing: Showing) -> u8 {
     let mut input = image_buffer();
     let mut image = image_buffer();
     let mut console = Console::new(rt);
-    show_argument(
-        &mut console,
-        index,
-        view,
-        goal,
-        count,
-        &mut input,
-        &mut image,
-    )
-    .status
+    show_argument(&mut console, index, showing, &mut input, &mut image).status
 }
 
 // Shows the run that the arguments from an index on ask for, the number of its steps and its image, and answers its status. If
@@ -88,7 +78,7 @@ pub fn show_by_arguments(rt: HostRuntime, from: usize, view: View, goal: Goal, u
     requires { from ≤ 254 }
 {
     match (count_argument(rt, from), name_from(rt, from + 1)) {
-        (Some(count), Some(index)) => show_input(rt, index, view, goal, count),
+        (Some(count), Some(index)) => show_input(rt, index, Showing { view, goal, count }),
         _ => refuse(rt, usage),
     }
 }

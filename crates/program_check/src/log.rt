@@ -80,15 +80,12 @@ fn part_end(size: usize, whole: usize, ended: bool) -> usize
 
 // Moves what stands between two places to the front.
 fn keep_rest(buffer: &mut [u8], end: usize, size: usize) -> usize
-    requires { (end ≤ size) × (size ≤ length buffer.old) × (size - end ≤ most_held) }
+    requires { (end ≤ size) × (size ≤ length buffer.old) }
     ensures buffer_after { buffer.new ≡ sets buffer.old 0 (take (size - end) (drop end buffer.old)) }
     ensures value { result ≡ size - end }
 {
-    let left = size - end;
-    let mut rest = [0u8; MOST_HELD];
-    rest[..left].copy_from_slice(&buffer[end..size]);
-    buffer[..left].copy_from_slice(&rest[..left]);
-    left
+    buffer.copy_within(end..size, 0);
+    size - end
 }
 
 // Whether another part is to be read.

@@ -24,7 +24,7 @@ ghost use Rattle.text_writing.specs.Delivered.{answer_in};
 ghost use Rattle.program_check.specs.Concluded.{Concludes, Notes};
 ghost use Rattle.trace_line.specs.Lines.{longest_line};
 
-use console::{Console, argument_count, argument_is, hand_over, names_from, refuse};
+use console::{Console, Done, argument_count, argument_is, hand_over, names_from, refuse};
 use console_ending::say_refused;
 use laws::answers::{MEMORY_NOT_FULL, Refusal};
 use log::{Found, check_log};
@@ -166,25 +166,26 @@ fn check_on(console: &mut Console, image: usize, log: usize, copy: &mut [u8]) ->
     conclude(console, log, found, copy)
 }
 
-// Checks a log on the image, which is read again for each, and notes the status: of several logs the first that is not 0
-// stays. The image is left in `input` as it was read, and the log is checked on a copy; the answer is its size.
-// By a reference and no `Done`: the promise is of the status that was there before.
+// Checks a log on the image, which is read again for each, and answers the status that stays after one that was noted before: of
+// several logs the first that is not 0. The image is left in `input` as it was read, and the log is checked on a copy.
 fn check_argument(
     console: &mut Console,
     image: usize,
     log: usize,
     input: &mut [u8],
     copy: &mut [u8],
-    status: &mut u8,
-) -> usize
+    before: u8,
+) -> Done
     requires { length input.old ≤ length copy.old }
-    ensures notes { Notes status.old (take result input.new) console.new.failed status.new }
+    ensures notes { Notes before (take result.size input.new) console.new.failed result.status }
     ensures failure_stays { FailureStays console.old.failed console.new.failed }
 {
     let size = console.read_two(image, input, copy);
     let own = check_on(console, image, log, &mut copy[..size]);
-    *status = first_of(*status, own);
-    size
+    Done {
+        size,
+        status: first_of(before, own),
+    }
 }
 
 // Checks the logs from an index on, each with a cell of its own; the image stands before them.
@@ -196,14 +197,15 @@ fn check_all(rt: HostRuntime, first: usize, count: usize) -> u8
     let mut status: u8 = 0;
     for index in first..count {
         let mut console = Console::new(rt);
-        check_argument(
+        let done = check_argument(
             &mut console,
             first - 1,
             index,
             &mut input,
             &mut copy,
-            &mut status,
+            status,
         );
+        status = done.status;
     }
     status
 }

@@ -41,6 +41,13 @@ use text_writing::Writer;
 
 mod running; // running.rt: the run of a file
 
+// Where the run is meant to end, and how many steps it may make.
+#[derive(Drop)]
+struct Work {
+    goal: Goal,
+    steps: u64,
+}
+
 fn print_line(console: &mut Console, ended: Ended)
     ensures { FailureStays console.old.failed console.new.failed }
 {
@@ -52,17 +59,15 @@ fn print_line(console: &mut Console, ended: Ended)
 }
 
 // Keeps a file that a run left. `input` is what was read: only if its status is 0, and only what the definition says.
-// The goal and the steps are two parameters, and no struct: the definition `go_status` takes both.
 fn keep(
     console: &mut Console,
     after: usize,
-    goal: Goal,
-    steps: u64,
+    work: Work,
     input: &[u8],
     status: u8,
     file: &[u8],
 ) -> u8
-    requires status_value { (status ≡ 0) × (go_status goal steps input.now ≡ 0) × (file.now ≡ go_after goal steps input.now) }
+    requires status_value { (status ≡ 0) × (go_status work.goal work.steps input.now ≡ 0) × (file.now ≡ go_after work.goal work.steps input.now) }
     requires failed_value { console.old.failed ≡ 0 }
     ensures value { result ≡ first_of console.new.failed status }
     ensures failure_stays { FailureStays console.old.failed console.new.failed }
@@ -71,21 +76,15 @@ fn keep(
 }
 
 // Runs what was read, in the copy of it that stands at the start of `image`, and keeps what it leaves there.
-fn go_file(
-    console: &mut Console,
-    names: Names,
-    goal: Goal,
-    steps: u64,
-    input: &[u8],
-    image: &mut [u8],
-) -> u8
+fn go_file(console: &mut Console, names: Names, work: Work, input: &[u8], image: &mut [u8]) -> u8
     requires { (take (length input.now) image.old ≡ input.now) × (length input.now ≤ length image.old) × (full_memory + longest_line ≤ length image.old) }
-    ensures value { result ≡ first_of console.new.failed (go_status goal steps input.now) }
+    ensures value { result ≡ first_of console.new.failed (go_status work.goal work.steps input.now) }
     ensures failure_stays { FailureStays console.old.failed console.new.failed }
 {
     let opened = open(input);
     let size = opened.size;
-    let ended = run_from(console.rt, opened.start, steps, &mut image[..size]);
+    let goal = work.goal;
+    let ended = run_from(console.rt, opened.start, work.steps, &mut image[..size]);
     wipe_progress(console.rt);
     print_line(console, ended);
     let status = say_ending(console, names.image, goal, ended, &image[..size]);
@@ -96,8 +95,7 @@ fn go_file(
     keep(
         console,
         names.after,
-        goal,
-        steps,
+        work,
         input,
         status,
         &image[..after_size],
@@ -108,13 +106,12 @@ fn go_file(
 fn go_argument(
     console: &mut Console,
     names: Names,
-    goal: Goal,
-    steps: u64,
+    work: Work,
     input: &mut [u8],
     image: &mut [u8],
 ) -> Done
     requires { (length input.old ≤ length image.old) × (full_memory + longest_line ≤ length image.old) }
-    ensures { result.status ≡ first_of console.new.failed (go_status goal steps (take result.size input.new)) }
+    ensures { result.status ≡ first_of console.new.failed (go_status work.goal work.steps (take result.size input.new)) }
 {
     let size = read_and_test(console, names, input, image);
     if console.failed != 0 {
@@ -123,11 +120,11 @@ fn go_argument(
             status: console.failed,
         };
     }
-    let status = go_file(console, names, goal, steps, &input[..size], image);
+    let status = go_file(console, names, work, &input[..size], image);
     Done { size, status }
 }
 
-fn go(rt: HostRuntime, names: Names, steps: u64, goal: Goal) -> u8 {
+fn go(rt: HostRuntime, names: Names, work: Work) -> u8 {
     if is_same_file(rt, names.after, names.image) {
         return refuse(
             rt,
@@ -137,7 +134,7 @@ fn go(rt: HostRuntime, names: Names, steps: u64, goal: Goal) -> u8 {
     let mut input = image_buffer();
     let mut image = image_buffer();
     let mut console = Console::new(rt);
-    go_argument(&mut console, names, goal, steps, &mut input, &mut image).status
+    go_argument(&mut console, names, work, &mut input, &mut image).status
 }
 
 fn go_by_arguments(rt: HostRuntime) -> u8 {
@@ -145,7 +142,7 @@ fn go_by_arguments(rt: HostRuntime) -> u8 {
         return refuse(rt, b"go: give STEPS STOP IMAGE AFTER; ./run go --help\n");
     };
     match steps_and_stop(rt, b"go", 1) {
-        Some((steps, goal)) => go(rt, names, steps, goal),
+        Some((steps, goal)) => go(rt, names, Work { goal, steps }),
         None => WRONG_USAGE,
     }
 }

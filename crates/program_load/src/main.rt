@@ -28,11 +28,10 @@ use console::{Console, Done, argument_count, argument_is, hand_over, names_from,
 use console_ending::say_refused;
 use console_files::{can_replace, is_same_file, not_written, replace};
 use console_tapes::{read_tape_input, say_verdict};
-use laws::answers::Refusal;
+use laws::answers::{NOT_REFUSED, Refusal};
 use manual::FULL_MEMORY;
 use memory::image_buffer;
-use statuses::first_of;
-use tape_loading::{Fault, Verdict, format_of, number_and_reach, read_text};
+use tape_loading::{Fault, Verdict, format_of, read_text};
 use tape_paper::tape_buffer;
 
 // The arguments that name the files: TAPE, AFTER, and IMAGE if there is one.
@@ -64,20 +63,13 @@ fn explain(console: &mut Console, names: Names, tape: &[u8], verdict: Verdict, i
 }
 
 // Keeps a memory. `tape` was laid onto `before`: only if all of it is good, and only what the definition says.
-fn keep(
-    console: &mut Console,
-    after: usize,
-    tape: &[u8],
-    before: &[u8],
-    answer: u8,
-    memory: &[u8],
-) -> u8
-    requires answer_value { (answer ≡ 0) × ((read_text tape.now before.now).answer ≡ 0) × (memory.now ≡ (read_text tape.now before.now).memory) }
+fn keep(console: &mut Console, after: usize, tape: &[u8], before: &[u8], memory: &[u8]) -> u8
+    requires memory_value { ((read_text tape.now before.now).answer ≡ 0) × (memory.now ≡ (read_text tape.now before.now).memory) }
     requires failed_value { console.old.failed ≡ 0 }
-    ensures value { result ≡ first_of console.new.failed answer }
+    ensures value { result ≡ first_of console.new.failed 0 }
     ensures failure_stays { FailureStays console.old.failed console.new.failed }
 {
-    replace(console, after, answer, memory)
+    replace(console, after, NOT_REFUSED, memory)
 }
 
 // Lays a tape onto an image, of which `before` is a copy, and keeps the memory only if the whole tape is good.
@@ -93,12 +85,11 @@ fn load_onto(
 {
     let verdict = read_text(tape, image);
     explain(console, names, tape, verdict, before);
-    // A number: one test asks for the console's failure and the tape's, as `first_of` has them.
-    let (answer, _) = number_and_reach(verdict);
-    if first_of(console.failed, answer) != 0 {
-        return not_written(console, names.after, answer);
+    match verdict {
+        Err(fault) => not_written(console, names.after, fault.reason.into()),
+        Ok(_) if console.failed != 0 => not_written(console, names.after, NOT_REFUSED),
+        Ok(_) => keep(console, names.after, tape, before, image),
     }
-    keep(console, names.after, tape, before, answer, image)
 }
 
 // Loads a tape onto the image that an argument names, which is read into both buffers.

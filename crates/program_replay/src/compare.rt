@@ -88,14 +88,6 @@ fn compare(machine: Machine, lines: Lines, state: State, same: bool) -> Verdict
     }
 }
 
-// Whether two memories hold the same bytes: by name, for its two clauses, which the proof of `judge` needs.
-fn same(memory: &Memory, expected: &Memory) -> bool
-    ensures alike { result ≡ true → memory.now ≡ expected.now }
-    ensures told { memory.now ≡ expected.now → result ≡ true }
-{
-    memory == expected
-}
-
 // Makes the step by a lent record, and compares the answer, the machine and the whole memory after it.
 #[tactic(auto, unfolding(crate::specs::Comparison::judged))]
 pub(crate) fn judge(before: State, after: State, memory: &mut Memory, expected: &Memory) -> Verdict
@@ -111,5 +103,5 @@ pub(crate) fn judge(before: State, after: State, memory: &mut Memory, expected: 
     if u8::from(stepped.reason) != after.number {
         return Verdict::Answer;
     }
-    compare(stepped.machine, lines, after, same(memory, expected))
+    compare(stepped.machine, lines, after, *memory == *expected)
 }

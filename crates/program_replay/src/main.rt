@@ -12,7 +12,7 @@
 ghost use Rattle.std.specs.Prelude.{◌≤◌, ◌≡◌, length, take};
 ghost use Rattle.statuses.specs.Statuses.{check_status, first_of};
 ghost use Rattle.console.specs.Failing.{FailureStays};
-ghost use Rattle.program_replay.specs.Verdicts.{faults, tally_of, replay_status};
+ghost use Rattle.program_replay.specs.Verdicts.{tally_of, replay_status};
 
 use compare::Verdict;
 use console::{Console, Done, hand_over, name_from, refuse};
@@ -61,16 +61,10 @@ const LONGEST_DIFFERENCE: usize = 39;
 
 const LONGEST_TALLY: usize = 65;
 
-// Names a line that differs, and answers 1 for it.
-// A number and no bool: it is what the tally counts.
-fn tell(console: &mut Console, line: u64, verdict: Verdict) -> u64
-    ensures value { result ≡ faults verdict }
-    ensures upper_bound { result ≤ 1 }
-    ensures failure_stays { FailureStays console.old.failed console.new.failed }
+// Names a line that differs.
+fn tell(console: &mut Console, line: u64, verdict: Verdict)
+    ensures { FailureStays console.old.failed console.new.failed }
 {
-    if verdict == Verdict::Same {
-        return 0;
-    }
     let mut text = [0u8; LONGEST_DIFFERENCE];
     let mut out = Writer::new(&mut text);
     out.put_text(b"line ");
@@ -79,7 +73,6 @@ fn tell(console: &mut Console, line: u64, verdict: Verdict) -> u64
     out.put_text(word_of(verdict));
     let size = out.place();
     console.write_output(&text[..size]);
-    1
 }
 
 fn replay(console: &mut Console, text: &[u8]) -> Tally
@@ -95,7 +88,10 @@ fn replay(console: &mut Console, text: &[u8]) -> Tally
     while at < text.len() {
         lines += 1;
         let verdict = replay_line(text, at, &mut memory, &mut expected);
-        differ += tell(console, lines, verdict);
+        if verdict != Verdict::Same {
+            tell(console, lines, verdict);
+            differ += 1;
+        }
         at = next_line(text, at);
     }
     Tally { lines, differ }

@@ -1,7 +1,7 @@
 // A text of records read onto a lent memory.
 #![tactic(auto)]
 
-ghost use Rattle.std.specs.Prelude.{◌≤◌, ◌≡◌, Err};
+ghost use Rattle.std.specs.Prelude.{◌≤◌, ◌≡◌};
 ghost use Rattle.tape_records.specs.Contents.{laid, outcome, read_onto};
 ghost use Rattle.tape_records.specs.Inner.Items.{told, told_in};
 ghost use Rattle.tape_paper.specs.Tapes.{tape_of, read_tape};
@@ -77,18 +77,17 @@ pub fn number_and_reach(verdict: Verdict) -> (u8, Reach)
     }
 }
 
-// A text that is refused.
-fn refuse(reason: Refusal, good: u64, place: usize) -> Verdict
-    ensures { result ≡ Err (record { reason = reason; reach = record { good = good; place = place } }) }
+// Why a text is refused, and how far it is good.
+fn fault_at(reason: Refusal, good: u64, place: usize) -> Fault
+    ensures { result ≡ record { reason = reason; reach = record { good = good; place = place } } }
 {
-    Err(Fault {
+    Fault {
         reason,
         reach: Reach { good, place },
-    })
+    }
 }
 
-// What comes next in a text: a data record, with the place of its data and that at which the text goes on, or none. The
-// end is a verdict and no Err: it is good if the end record is.
+// What comes next in a good text: a data record, with the place of its data and that at which the text goes on, or the end.
 #[derive(Clone, Copy)]
 pub enum Next {
     Data {
@@ -96,34 +95,34 @@ pub enum Next {
         digits: usize,
         after: usize,
     },
-    Stop(Verdict),
+    End(Reach),
 }
 
 // What comes next after so many data records, the last of which ends at a place.
-pub fn next_record(format: Format, text: &[u8], start: usize, before: u64) -> Next
+pub fn next_record(format: Format, text: &[u8], start: usize, before: u64) -> Result<Next, Fault>
     requires { before ≤ start }
     ensures { next_in result ≡ next_of format text.now start before }
 {
     let size = text.len();
     let at = skip_separators(text, start);
     if size <= at {
-        return Next::Stop(refuse(Refusal::NoEnd, before, size));
+        return Err(fault_at(Refusal::NoEnd, before, size));
     }
     match format.read_item(rest(text, at), before) {
-        Err(reason) => Next::Stop(refuse(reason, before, at)),
+        Err(reason) => Err(fault_at(reason, before, at)),
         Ok(Item::End) => {
             let good = before + 1;
             let end = skip_separators(text, at + 11);
             if end < size {
-                return Next::Stop(refuse(Refusal::MalformedRecord, good, end));
+                return Err(fault_at(Refusal::MalformedRecord, good, end));
             }
-            Next::Stop(Ok(Reach { good, place: size }))
+            Ok(Next::End(Reach { good, place: size }))
         }
-        Ok(Item::Data(head)) => Next::Data {
+        Ok(Item::Data(head)) => Ok(Next::Data {
             head,
             digits: at + 1 + 2 * format.head_size(),
             after: at + head.size(),
-        },
+        }),
     }
 }
 
@@ -135,8 +134,8 @@ fn lay(format: Format, text: &[u8], memory: &mut [u8]) -> Verdict
     let mut at: usize = 0;
     let mut before: u64 = 0;
     loop {
-        match next_record(format, text, at, before) {
-            Next::Stop(verdict) => return verdict,
+        match next_record(format, text, at, before)? {
+            Next::End(reach) => return Ok(reach),
             Next::Data {
                 head,
                 digits,
@@ -155,7 +154,7 @@ fn read(format: Format, text: &[u8], memory: &mut [u8]) -> Verdict
     ensures { with_memory result memory.new ≡ read_onto text.now (contents_of format text.now) memory.old }
 {
     if memory.len() != FULL_MEMORY {
-        return refuse(Refusal::MemoryNotFull, 0, 0);
+        return Err(fault_at(Refusal::MemoryNotFull, 0, 0));
     }
     lay(format, text, &mut [])?;
     lay(format, text, memory)

@@ -103,9 +103,8 @@ fn put_records(out: &mut Writer, from: Format, to: Format, text: &[u8]) -> Verdi
     let mut at: usize = 0;
     let mut before: u64 = 0;
     loop {
-        match next_record(from, text, at, before) {
-            Next::Stop(Err(fault)) => return Err(fault),
-            Next::Stop(Ok(reach)) => {
+        match next_record(from, text, at, before)? {
+            Next::End(reach) => {
                 put_last(out, to, before as u16);
                 return Ok(reach);
             }

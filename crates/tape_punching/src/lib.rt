@@ -56,15 +56,11 @@ fn put_tape(out: &mut Writer, first: u16, stretch: &[u8])
     requires { first + length stretch.now ≤ 65536 }
     ensures { Writes out.old (tape_text 0 (cut first 0 stretch.now)) out.new }
 {
-    let mut rest = stretch;
     let mut address = first as usize;
     let mut records: u16 = 0;
-    // A loop and no `chunks`: the invariant is over the rest, as the definition `cut` is.
-    while !rest.is_empty() {
-        let size = rest.len().min(24);
-        put_record(out, address as u16, &rest[..size]);
-        rest = &rest[size..];
-        address += size;
+    for record in stretch.chunks(24) {
+        put_record(out, address as u16, record);
+        address += record.len();
         records += 1;
     }
     put_end(out, records);

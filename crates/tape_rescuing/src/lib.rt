@@ -1,7 +1,7 @@
 // What can be saved of a torn tape.
 #![tactic(auto)]
 
-ghost use Rattle.std.specs.Prelude.{◌+◌, ◌*◌, ◌≤◌, ◌<◌, ◌≡◌, ◌++◌, cond, eqb, IfOk, length, take};
+ghost use Rattle.std.specs.Prelude.{◌+◌, ◌*◌, ◌≤◌, ◌<◌, ◌≡◌, ◌++◌, IfOk, length, take};
 ghost use Rattle.text_writing.specs.Written.{Writes};
 ghost use Rattle.tape_records.specs.Records.{record_of};
 ghost use Rattle.tape_records.specs.Grammar.{newline};
@@ -73,20 +73,13 @@ fn put_kept(out: &mut Writer, text: &[u8], size: usize)
     out.put_text(b"\r\n");
 }
 
-// Where the first was dropped, now that one is dropped here.
-fn first_of(dropped: u64, first: usize, here: usize) -> usize
-    ensures { result ≡ cond (eqb dropped 0) here first }
-{
-    if dropped == 0 { here } else { first }
-}
-
 // Writes what is kept. Of more than 65,535 records the end record is left out: there is none that fits.
 fn put_saved(out: &mut Writer, text: &[u8]) -> Tally
     ensures { Passed (saved 0 text.now) out.old out.new result }
 {
     let mut kept: u64 = 0;
     let mut dropped: u64 = 0;
-    let mut first = text.len();
+    let mut first: Option<usize> = None;
     // By index: the place itself is told, and the rest of the text begins there.
     for at in 0..text.len() {
         if text[at] != b';' {
@@ -100,11 +93,12 @@ fn put_saved(out: &mut Writer, text: &[u8]) -> Tally
             }
             Ok(Item::End) => {}
             Err(_) => {
-                first = first_of(dropped, first, at);
+                first = first.or(Some(at));
                 dropped += 1;
             }
         }
     }
+    let first = first.unwrap_or(text.len());
     if kept <= 65535 {
         put_end(out, kept as u16);
     }

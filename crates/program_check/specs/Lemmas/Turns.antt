@@ -1,6 +1,6 @@
 -- Laws of Turns.antt.
 use Rattle.std.specs.Prelude.{◌≡◌, ℕ, ◌+◌, ◌-◌, ◌≤◌, Bool, true, false, ◌⊎◌, List, [], ◌++◌, length, take, drop, Option, None}
-use Rattle.std.proofs.Common.{ap, sym, subst, ◌∙◌, inl, inr, arith, length-append, length-drop, length-take-le, take-take, take-add, drop_at, take_at, zero-add}
+use Rattle.std.proofs.Common.{ap, sym, subst, ◌∙◌, inl, inr, arith, length-append, length-drop, length-take-le, take-take, take-add, drop_at}
 use Rattle.std.proofs.lemmas.List.Edits.{sets, sets-eq}
 use Rattle.std.proofs.Math.Seq.{take-append_seam}
 use Rattle.text_reading.specs.Numbers.{nowhere}
@@ -23,11 +23,6 @@ after a z b h l = ap (λ (v : List ℕ). drop a v) (sym (split a z b h)) ∙ dro
 
 moved : (v b : List ℕ) → length v ≤ length b → take (length v) (sets b 0 v) ≡ v
 moved v b h = ap (λ (l : List ℕ). take (length v) l) (sets-eq v b 0 (omega arith)) ∙ take-append_seam v (drop (0 + length v) b)
-
--- what was put aside, and then to the front
-pub put_front : (b tail : List ℕ) {left : ℕ} {t u v : List ℕ} → length t ≡ left → left ≤ length b → u ≡ t → v ≡ take left (u ++ tail)
-    → v ++ drop left b ≡ sets b 0 t
-put_front b tail {left} {t} s f e g = rw (g, e, take_at t tail left s, sets-eq t b 0 (omega arith), zero-add (length t), s)
 
 module _ (b : List ℕ) (kept size : ℕ) (ended : Bool) (f : Found) (m : List ℕ) (r : Turn) {p : Part} {m' b' : List ℕ} {whole end : ℕ}
     (inside : kept ≤ size) (fits : size ≤ length b) (cut : whole ≡ whole_end (take size b)) (place : end ≡ part_end ended size whole) (within : end ≤ size)

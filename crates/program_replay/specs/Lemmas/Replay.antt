@@ -11,6 +11,7 @@ use Rattle.text_reading.specs.Numbers.{nowhere, mark_at}
 use Rattle.text_reading.specs.Lemmas.Found.{lost_mark}
 use Rattle.replay_list.specs.Lemmas.Lost.{lost_state, lost_bar, lost_loaded}
 use Rattle.replay_list.specs.Lines.{state_at, bar_at, loaded_from, most_cells, line_after}
+use Rattle.program_replay.specs.declared.compare.Verdict.{Verdict}
 use Rattle.program_replay.specs.Verdicts.{zeros, end_at, line_verdict, faults, tally_from, tally_of}
 
 pub zeroed : {m : List ℕ} {n : ℕ} → m ≡ replicate n 0 → n ≡ 65536 → m ≡ zeros
@@ -66,6 +67,21 @@ module _ (s : List ℕ) (fits : length s ≤ nowhere) where
 
   pub after_before : (p : ℕ) → p ≡ nowhere → end_list s (bar_at s p) ≡ nowhere
   after_before p lost = after_list _ (lost_bar s fits p lost)
+
+-- what is not the same is one fault
+pub one_fault : (v : Verdict) → (v ≡ Verdict.Same → ⊥) → faults v ≡ 1
+one_fault Verdict.Same other = absurd (other refl)
+one_fault Verdict.Malformed other = refl
+one_fault Verdict.Answer other = refl
+one_fault Verdict.Counter other = refl
+one_fault Verdict.Accumulator other = refl
+one_fault Verdict.X other = refl
+one_fault Verdict.Y other = refl
+one_fault Verdict.Stack other = refl
+one_fault Verdict.Status other = refl
+one_fault Verdict.Cycles other = refl
+one_fault Verdict.Levels other = refl
+one_fault Verdict.Memory other = refl
 
 pub tally_start : (s : List ℕ) → tally_of s ≡ tally_from (length s - 0) s 0 0 0
 unfolding tally_of

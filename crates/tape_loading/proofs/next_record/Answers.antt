@@ -7,19 +7,19 @@ use Rattle.tape_loading.proofs.next_record.Goals as goal
 pub returns-then-size-at : goal.returns-then-size-at
 returns-then-size-at c =
     let args = c.args in
-    rw c.refuse.ensures (no_more args.format args.text.now args.start args.before c.skip_separators-at.ensures c.if-size-at.true)
+    rw c.fault_at.ensures (no_more args.format args.text.now args.start args.before c.skip_separators-at.ensures c.if-size-at.true)
 
 pub returns-then-end-size : goal.returns-then-end-size
 returns-then-end-size c =
     let args = c.args in
-    rw c.refuse-then-end-size.ensures
+    rw c.fault_at-then-end-size.ensures
     (next_stray args.format args.text.now args.start args.before c.skip_separators-at.ensures c.if-size-at.false c.rest.ensures c.read_item.ensures
     (ap told_in (c.in-Ok-End.is ∙ ap Ok c.in-Ok-End.field-0-is)) c.skip_separators-end.ensures c.if-end-size.true)
 
 pub returns-in-Err : goal.returns-in-Err
 returns-in-Err c =
     let args = c.args in
-    rw c.refuse-in-Err.ensures
+    rw c.fault_at-in-Err.ensures
     (next_bad args.format args.text.now args.start args.before c.skip_separators-at.ensures c.if-size-at.false c.rest.ensures c.read_item.ensures
     (ap told_in c.in-Err.is))
 

@@ -1,11 +1,12 @@
 -- What comes next in a text, at a place where a record may begin and after so many data records.
-use Rattle.std.specs.Prelude.{ℕ, ◌+◌, ◌*◌, cond, List, ltb, length, drop}
+use Rattle.std.specs.Prelude.{ℕ, ◌+◌, ◌*◌, cond, List, ltb, length, drop, Result, Ok, Err}
 use Rattle.laws.specs.Answers.{not_refused, malformed_record, no_end}
 use Rattle.tape_records.specs.Contents.{Item, stretch, finish, bad}
 use Rattle.tape_records.specs.Inner.Gaps.{gap_end}
 use Rattle.tape_loading.specs.declared.Format.{Format}
 use Rattle.tape_loading.specs.declared.Next.{Next as Coming}
-use Rattle.tape_loading.specs.declared.Next.TheVariants.{Data as ComingData, Stop as ComingStop}
+use Rattle.tape_loading.specs.declared.Next.TheVariants.{Data as ComingData, End as ComingEnd}
+use Rattle.tape_loading.specs.declared.Fault.{Fault}
 use Rattle.tape_loading.specs.Answers.{Verdict, verdict_in}
 use Rattle.tape_loading.specs.Inner.Formats.{item_of, head_size}
 
@@ -15,9 +16,10 @@ pub data Next : Type 0 where
   Stop : Verdict → Next
 
 -- the same of what the code answers
-abbrev pub next_in : Coming → Next
-next_in (ComingData head digits after) = Ahead head.address head.count digits after
-next_in (ComingStop verdict) = Stop (verdict_in verdict)
+abbrev pub next_in : Result Coming Fault → Next
+next_in (Ok (ComingData head digits after)) = Ahead head.address head.count digits after
+next_in (Ok (ComingEnd reach)) = Stop (verdict_in (Ok reach))
+next_in (Err fault) = Stop (verdict_in (Err fault))
 
 abbrev pub stop_at : ℕ → ℕ → ℕ → Next
 stop_at answer good place = Stop (record { answer = answer; good = good; place = place })

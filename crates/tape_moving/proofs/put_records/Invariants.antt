@@ -5,9 +5,9 @@ use Rattle.tape_loading.specs.Inner.Formats.{item_of, contents_of}
 use Rattle.tape_moving.specs.Lemmas.Passing.{Underway}
 use Rattle.tape_moving.proofs.put_records.Given as goal
 
-abbrev pub invariant-loop-fault : goal.invariant-loop-fault
-invariant-loop-fault l = (l.at ≤ length l.text) × (l.before ≤ l.at)
+abbrev pub invariant-loop-reach : goal.invariant-loop-reach
+invariant-loop-reach l = (l.at ≤ length l.text) × (l.before ≤ l.at)
     × Underway l.to l.text (contents_of l.from l.text) (contents (item_of l.from) 0 l.before (drop l.at l.text)) l.initial.out l.out l.before
 
-abbrev pub decreases-loop-fault : goal.decreases-loop-fault
-decreases-loop-fault l = length l.text - l.at
+abbrev pub decreases-loop-reach : goal.decreases-loop-reach
+decreases-loop-reach l = length l.text - l.at

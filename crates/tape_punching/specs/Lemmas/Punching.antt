@@ -1,6 +1,6 @@
 -- Laws of a punched tape, for the proofs of the code: `end` is the address after the stretch.
 use Rattle.std.specs.Prelude.{◌≡◌, ℕ, zero, suc, ◌+◌, ◌-◌, ◌*◌, ◌/◌, ◌%◌, ◌<◌, ◌≤◌, min, Bool, true, false, List, [], ◌∷◌, ◌++◌, length, take, drop, nat_lt, slice_index, refl}
-use Rattle.std.proofs.Common.{ap, ◌∙◌, add-zero, zero-add, suc-add, arith, length-append, length-take, length-drop, drop_of_length-le, take_all, take-suc, ltb-true, ltb-false}
+use Rattle.std.proofs.Common.{ap, ◌∙◌, add-zero, zero-add, suc-add, arith, length-append, length-take, drop_of_length-le, take_all, take_at, drop_at, take-suc, ltb-true, ltb-false}
 use Rattle.std.proofs.Math.Decide.{dec_lt}
 use Rattle.std.proofs.Math.Seq.{slice, take-nil, drop-nil}
 use Rattle.text_writing.specs.Numerals.{hex2}
@@ -46,7 +46,7 @@ stretch_cut m first end h =
     take_drop first (end - first) m ∙ ap (λ (n : ℕ). drop first (take n m)) all
 
 -- The next record, and the tape after it.
-pub tape_more : (k at n : ℕ) (bs : List ℕ) → 0 < length bs → n ≡ min (length bs) 24
+tape_more : (k at n : ℕ) (bs : List ℕ) → 0 < length bs → n ≡ min (length bs) 24
     → tape_text k (cut at 0 bs) ≡ (record_text at (take n bs) ++ newline) ++ tape_text (k + 1) (cut (at + n) 0 (drop n bs))
 tape_more k at n bs some e = ap (tape_text k) (next_record_lem at bs some) ∙ by_test (nat_lt (length bs) 24) refl
   where
@@ -62,9 +62,14 @@ tape_more k at n bs some e = ap (tape_text k) (next_record_lem at bs some) ∙ b
         let whole : n ≡ 24 = omega arith in
         rw whole
 
--- what is left of some bytes, as the code cuts it
-pub bytes_left : (bs : List ℕ) (n : ℕ) → take (length bs - n) (drop n bs) ≡ drop n bs
-bytes_left bs n = take_all (length bs - n) (drop n bs) (rw (length-drop n bs) (omega arith))
+-- the same, the bytes in two parts as `chunks` cuts them
+pub chunk_more : (k at : ℕ) (bs chunk rest : List ℕ) → bs ≡ chunk ++ rest → length chunk ≡ min 24 (length bs) → 0 < length bs
+    → tape_text k (cut at 0 bs) ≡ (record_text at chunk ++ newline) ++ tape_text (k + 1) (cut (at + length chunk) 0 rest)
+chunk_more k at bs chunk rest parts size some =
+    let taken : take (length chunk) bs ≡ chunk = rw parts (take_at chunk rest (length chunk) refl) in
+    let left : drop (length chunk) bs ≡ rest = rw parts (drop_at chunk rest (length chunk) refl) in
+    let more = tape_more k at (length chunk) bs some (omega (arith, size)) in
+    rw (taken, left) at more
 
 pub tape_none : (k at : ℕ) (bs : List ℕ) → length bs ≤ 0 → tape_text k (cut at 0 bs) ≡ record_text k [] ++ newline
 tape_none k at [] h = refl

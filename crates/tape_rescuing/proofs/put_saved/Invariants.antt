@@ -1,9 +1,9 @@
--- The loop's invariant: of what is saved in all, this is left. Where nothing is dropped yet, the offset is the text's length.
-use Rattle.std.proofs.Common.{◌≡◌, ◌≤◌, length, drop}
+-- The loop's invariant: of what is saved in all, this is left.
+use Rattle.std.proofs.Common.{◌≤◌, drop}
 use Rattle.tape_rescuing.specs.Rescuing.{saved}
 use Rattle.tape_rescuing.specs.Lemmas.Passing.{Underway}
 use Rattle.tape_rescuing.proofs.put_saved.Given as goal
 
 abbrev pub invariant-loop-at : goal.invariant-loop-at
-invariant-loop-at l = (l.kept ≤ l.at) × (l.dropped ≤ l.at) × (l.dropped ≡ 0 → l.first ≡ length l.text)
+invariant-loop-at l = (l.kept ≤ l.at) × (l.dropped ≤ l.at)
     × Underway (saved 0 l.text) (saved l.at (drop l.at l.text)) l.initial.out l.out l.kept l.dropped l.first

@@ -1,6 +1,8 @@
 -- Laws of Passing.antt.
-use Rattle.std.specs.Prelude.{ℕ, ◌+◌, ◌*◌, ◌≤◌, ◌≡◌, refl, Bool, true, false, cond, List, [], ◌++◌, eqb, length, take, drop, Some, None}
-use Rattle.std.proofs.Common.{ap, sym, ◌∙◌, arith, length-append, take_at, ne_eqb, eqb-true}
+use Rattle.std.specs.Prelude.{ℕ, ◌+◌, ◌*◌, ◌≤◌, ◌≡◌, refl, List, [], ◌++◌, length, take, drop, Some, None}
+use Rattle.std.specs.Prelude.{Option as Maybe}
+use Rattle.std.specs.Option.{unwrap_or, option_or}
+use Rattle.std.proofs.Common.{ap, sym, ◌∙◌, arith, length-append, take_at}
 use Rattle.std.proofs.Math.Option.{Option, none, some}
 use Rattle.laws.specs.Answers.{malformed_record}
 use Rattle.text_writing.specs.Written.{Writes}
@@ -24,13 +26,13 @@ use Rattle.tape_rescuing.specs.Rescuing.{worth, Saved, found}
 use Rattle.tape_rescuing.specs.Lemmas.Worth.{worth_item}
 
 -- of X, x is left
-pub record Underway (X x : Saved) (w₀ w : Writer) (kept dropped first : ℕ) : Type 0 where
+pub record Underway (X x : Saved) (w₀ w : Writer) (kept dropped : ℕ) (first : Maybe ℕ) : Type 0 where
   pub keeps : kept + length x.records ≡ length X.records
   pub drops : dropped + x.dropped ≡ X.dropped
-  pub begins : cond (eqb dropped 0) x.first first ≡ X.first
+  pub begins : unwrap_or first x.first ≡ X.first
   pub writes : Left w (tape_text kept x.records) w₀ (tape_text 0 X.records)
 
-module _ {X x y : Saved} {w₀ w : Writer} {kept dropped first : ℕ} (u : Underway X x w₀ w kept dropped first) where
+module _ {X x y : Saved} {w₀ w : Writer} {kept dropped : ℕ} {first : Maybe ℕ} (u : Underway X x w₀ w kept dropped first) where
   pub on : x ≡ y → Underway X y w₀ w kept dropped first
   on e = rw e at u
 
@@ -46,30 +48,27 @@ module _ {X x y : Saved} {w₀ w : Writer} {kept dropped first : ℕ} (u : Under
       }
 
   pub one_dropped : (at reason : ℕ) → x ≡ found at (bad reason) y
-      → Underway X y w₀ w kept (dropped + 1) (cond (eqb dropped 0) at first)
+      → Underway X y w₀ w kept (dropped + 1) (option_or first (Some at))
   one_dropped at reason e =
       let v : Underway X (found at (bad reason) y) w₀ w kept dropped first = rw e at u in
       record {
         keeps = v.keeps;
         drops = omega (arith, v.drops);
-        begins = rw (ne_eqb (dropped + 1) 0 (λ z. omega arith)) v.begins;
+        begins = by_first first v.begins;
         writes = v.writes;
       }
+    where
+      by_first : (o : Maybe ℕ) → unwrap_or o at ≡ X.first → unwrap_or (option_or o (Some at)) y.first ≡ X.first
+      by_first None h = h
+      by_first (Some place) h = h
 
 -- nothing is left
-module _ {X : Saved} {w₀ w : Writer} {kept dropped first end : ℕ} (u : Underway X (record { records = []; dropped = 0; first = end }) w₀ w kept dropped first) where
+module _ {X : Saved} {w₀ w : Writer} {kept dropped end : ℕ} {first : Maybe ℕ} (u : Underway X (record { records = []; dropped = 0; first = end }) w₀ w kept dropped first) where
   pub all_kept : kept ≡ length X.records
   all_kept = omega (arith, u.keeps)
 
   pub all_dropped : dropped ≡ X.dropped
   all_dropped = omega (arith, u.drops)
-
-  pub its_first : (dropped ≡ 0 → first ≡ end) → first ≡ X.first
-  its_first h = by_test (eqb dropped 0) refl ∙ u.begins
-    where
-      by_test : (b : Bool) → eqb dropped 0 ≡ b → first ≡ cond (eqb dropped 0) end first
-      by_test true e = rw e (h (eqb-true dropped 0 e))
-      by_test false e = rw e
 
 -- a record's worth, as the code tells it
 module _ (s : List ℕ) where

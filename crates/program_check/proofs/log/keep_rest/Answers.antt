@@ -1,10 +1,11 @@
--- What was put aside is read back as it was.
-use Rattle.std.proofs.Common.{◌-◌, drop, arith, length-drop, length-take-le}
-use Rattle.program_check.specs.Lemmas.Turns.{put_front}
+-- A copy within a buffer is what is stored at its start.
+use Rattle.std.proofs.Common.{◌-◌, take, drop, arith, length-drop, length-take-le}
+use Rattle.std.proofs.lemmas.List.Edits.{sets-eq}
 use Rattle.program_check.proofs.log.keep_rest.Goals as goal
 
 pub returns-clause-buffer_after : goal.returns-clause-buffer_after
 returns-clause-buffer_after c =
-    let rest = drop c.args.end c.args.buffer.now in
-    let size = length-take-le (c.args.size - c.args.end) rest (omega (arith, c.requires, length-drop c.args.end c.args.buffer.now)) in
-    put_front _ _ size (omega (arith, c.requires)) c.copy_from_slice.ensures.after c.copy_from_slice-2.ensures.after
+    let b = c.args.buffer.now in
+    let left = c.args.size - c.args.end in
+    let size = length-take-le left (drop c.args.end b) (omega (arith, c.requires, length-drop c.args.end b)) in
+    rw (c.copy_within.ensures.after, sets-eq (take left (drop c.args.end b)) b 0 (omega (arith, c.requires, size)), size)

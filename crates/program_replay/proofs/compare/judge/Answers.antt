@@ -1,7 +1,7 @@
--- What the step gives is what `step_by_record` promises; the test of the memories decides their equality.
+-- What the step gives is what `step_by_record` promises; `==` of the memories is the definition's test.
 use Rattle.std.proofs.Common.{eq-eqb}
 use Rattle.program_replay.specs.Comparison.{judged}
-use Rattle.program_replay.specs.Lemmas.SameBytes.{decides}
+use Rattle.program_replay.specs.Lemmas.SameBytes.{same_is}
 use Rattle.program_replay.proofs.compare.judge.Goals as goal
 
 pub returns : goal.returns
@@ -13,6 +13,7 @@ returns c =
       c.step_by_record-stepped.ensures,
       ← c.from.ensures,
       eq-eqb _ _ c.if-from-after.false,
-      ← decides _ _ _ c.same.ensures.alike c.same.ensures.told,
+      ← same_is c.step_by_record-stepped.new.memory c.args.expected.now,
+      ← c.eq.ensures,
       c.compare.ensures,
     )
