@@ -14,11 +14,11 @@
 // What the line, the sentence and the status say is promised by image.rt, and by the crates sentences and statuses.
 #![tactic(auto)]
 
-ghost use Rattle.std.specs.Prelude.{◌+◌, ◌<◌, ◌≤◌, ◌≡◌, length, take};
+ghost use Rattle.std.specs.Prelude.{◌-◌, ◌<◌, ◌≤◌, ◌≡◌, length, take};
 ghost use Rattle.statuses.specs.Statuses.{first_of};
 ghost use Rattle.console.specs.Failing.{FailureStays};
 ghost use Rattle.program_report.specs.Status.{image_status};
-ghost use Rattle.program_report.specs.Named.{WritesAfter, longest_named};
+ghost use Rattle.program_report.specs.Named.{WroteAfter, longest_named};
 ghost use Rattle.sentences.specs.Line.{longest_line};
 
 use console::{
@@ -36,26 +36,26 @@ mod image; // image.rt: the run of an image, and its line
 // The most characters that a line has with a name after it, in place of its end: two spaces, the name and the end.
 const LONGEST_NAMED: usize = LONGEST_LINE + 4098;
 
-// Puts the name of an argument in place of a line's end, and the end after it.
-fn put_after(rt: HostRuntime, out: &mut Writer, index: usize)
-    ensures writes_after { WritesAfter out.old out.new }
-    ensures upper_bound { out.new.at ≤ out.old.at + 4099 }
+// Puts the name of an argument after a line of so many characters, in place of its end, and answers where it ends.
+// A text and its size, and no Writer: the name goes over the line's LF.
+fn put_after(rt: HostRuntime, text: &mut [u8], size: usize, index: usize) -> usize
+    requires { (0 < size) × (size ≤ longest_line) }
+    ensures { WroteAfter text.old (size - 1) text.new result }
 {
+    let mut out = Writer::from(text, size - 1);
     out.put_text(b"  ");
-    put_name(rt, out, index);
+    put_name(rt, &mut out, index);
     out.put_byte(b'\n');
+    out.place()
 }
 
 // Writes a line of so many characters, with the name after it if there are several.
-// A text and its size, and no Writer: the name goes over the line's LF.
 fn write_line(console: &mut Console, index: usize, several: bool, text: &mut [u8], size: usize)
     requires { (0 < size) × (size ≤ longest_line) × (length text.old ≡ longest_named) }
     ensures { FailureStays console.old.failed console.new.failed }
 {
     if several {
-        let mut out = Writer::from(text, size - 1);
-        put_after(console.rt, &mut out, index);
-        let end = out.place();
+        let end = put_after(console.rt, text, size, index);
         console.write_output(&text[..end]);
     } else {
         console.write_output(&text[..size]);
@@ -85,8 +85,8 @@ fn report_image(
     first_of(console.failed, status)
 }
 
-// Reads the image that an argument names into `input`, reports it and answers its status. It is run in `image`, so that `input`
-// is left as it was read.
+// Reads the image that an argument names into `input`, reports it and answers the status that stays after one that was noted
+// before: of several images the first that is not 0. It is run in `image`, so that `input` is left as it was read.
 fn report_argument(
     console: &mut Console,
     index: usize,
@@ -94,34 +94,41 @@ fn report_argument(
     goal: Goal,
     input: &mut [u8],
     image: &mut [u8],
+    before: u8,
 ) -> Done
     requires { length input.old ≤ length image.old }
-    ensures status_value { result.status ≡ first_of console.new.failed (image_status goal (take result.size input.new)) }
+    ensures status_value { result.status ≡ first_of before (first_of console.new.failed (image_status goal (take result.size input.new))) }
     ensures failure_stays { FailureStays console.old.failed console.new.failed }
 {
     let size = console.read_two(index, input, image);
-    let status = report_image(console, index, several, goal, &mut image[..size]);
-    Done { size, status }
+    let own = report_image(console, index, several, goal, &mut image[..size]);
+    Done {
+        size,
+        status: first_of(before, own),
+    }
 }
 
-// Reports the image that an argument names, in buffers and on a console of its own.
-fn report_one(rt: HostRuntime, index: usize, several: bool, goal: Goal) -> u8 {
+// Reports the images that the arguments from an index on name, each on a console of its own, or standard input if there are none.
+// Not put into `main`, where wrong usage would need the room of two images too.
+#[inline(never)]
+fn report_all(rt: HostRuntime, from: usize, goal: Goal) -> u8 {
     let mut input = image_buffer();
     let mut image = image_buffer();
-    let mut console = Console::new(rt);
-    report_argument(&mut console, index, several, goal, &mut input, &mut image).status
-}
-
-// Reports the images that the arguments from an index on name, or standard input if there are none. Of several the first
-// status that is not 0 stays.
-fn report_all(rt: HostRuntime, from: usize, goal: Goal) -> u8 {
-    let count = argument_count(rt);
-    if count <= from {
-        return report_one(rt, from, false, goal);
-    }
-    let mut status = 0;
-    for index in from..count {
-        status = first_of(status, report_one(rt, index, 1 < count - from, goal));
+    let mut status: u8 = 0;
+    // Standard input stands where the first name would.
+    let end = argument_count(rt).max(from.saturating_add(1));
+    for index in from..end {
+        let mut console = Console::new(rt);
+        let done = report_argument(
+            &mut console,
+            index,
+            1 < end - from,
+            goal,
+            &mut input,
+            &mut image,
+            status,
+        );
+        status = done.status;
     }
     status
 }
