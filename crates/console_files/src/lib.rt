@@ -119,6 +119,15 @@ fn sync_folder(rt: HostRuntime, folder: &[u8]) -> std::io::Result<()> {
     }
 }
 
+// The same; why it failed is said of the file that an argument names, and noted.
+fn note_sync(console: &mut Console, index: usize, folder: &[u8])
+    ensures { FailureStays console.old.failed console.new.failed }
+{
+    if let Err(error) = sync_folder(console.rt, folder) {
+        fail(console, index, error);
+    }
+}
+
 // A file of that name can be written, as far as its folder and what is there go.
 fn test_file(rt: HostRuntime, name: &[u8]) -> std::io::Result<()> {
     test_open(rt, name)?;
@@ -168,22 +177,34 @@ fn fill_and_rename(
     fs::rename(&rt, path_of(part)?, path_of(name)?)
 }
 
-// The new file takes the name, or it is removed.
-fn replace_by(rt: HostRuntime, part: &[u8], name: &[u8], bytes: &[u8]) -> std::io::Result<()> {
-    let file = create(rt, part)?;
-    let replaced = fill_and_rename(rt, file, part, name, bytes);
-    if replaced.is_err() {
-        remove(rt, part);
+// The new file takes the name; or why not is said, and it is removed.
+fn replace_by(console: &mut Console, index: usize, part: &[u8], name: &[u8], bytes: &[u8])
+    ensures { FailureStays console.old.failed console.new.failed }
+{
+    match create(console.rt, part) {
+        Ok(file) => {
+            if let Err(error) = fill_and_rename(console.rt, file, part, name, bytes) {
+                fail(console, index, error);
+                remove(console.rt, part);
+            }
+        }
+        Err(error) => fail(console, index, error),
     }
-    replaced
 }
 
-// Writes a file of that name, or leaves what is there.
-fn write_file(rt: HostRuntime, name: &[u8], bytes: &[u8]) -> std::io::Result<()> {
+// Writes a file of that name, or leaves what is there and says why. Nothing may have failed before. The failure goes into the
+// console and not into a Result: so whoever calls this cannot promise a status without looking at it.
+fn write_file(console: &mut Console, index: usize, name: &[u8], bytes: &[u8])
+    requires { console.old.failed ≡ 0 }
+    ensures { FailureStays console.old.failed console.new.failed }
+{
     let folder = folder_of(name);
     let mut room = [0u8; LONGEST_NAME];
-    replace_by(rt, put_beside(rt, folder, &mut room), name, bytes)?;
-    sync_folder(rt, folder)
+    let part = put_beside(console.rt, folder, &mut room);
+    replace_by(console, index, part, name, bytes);
+    if console.failed == 0 {
+        note_sync(console, index, folder);
+    }
 }
 
 // Reads an image into two buffers, and tests AFTER before anything is run.
@@ -225,8 +246,8 @@ pub fn replace(console: &mut Console, index: usize, status: u8, bytes: &[u8]) ->
 {
     let mut room = [0u8; LONGEST_NAME];
     let name = put_target(console.rt, index, &mut room);
-    if let Err(error) = write_file(console.rt, name, bytes) {
-        fail(console, index, error);
+    write_file(console, index, name, bytes);
+    if console.failed != 0 {
         return not_written(console, index, status);
     }
     status

@@ -10,7 +10,9 @@ use text_writing::Writer;
 const LINKS: u64 = 40;
 
 // The folder of a name: what stands before the name of the file, to the last slash.
-pub(crate) fn folder_of(name: &[u8]) -> &[u8] {
+pub(crate) fn folder_of(name: &[u8]) -> &[u8]
+    ensures { length result.now ≤ length name.now }
+{
     match name.iter().rposition(|&character| character == b'/') {
         Some(slash) => &name[..slash + 1],
         None => &[],
@@ -59,7 +61,9 @@ fn follow(rt: HostRuntime, name: &mut [u8], size: usize) -> Option<usize>
 }
 
 // Puts the name of the file that an argument leads to into a buffer: empty if it is missing, empty or too long.
-pub(crate) fn put_target(rt: HostRuntime, index: usize, name: &mut [u8]) -> &[u8] {
+pub(crate) fn put_target(rt: HostRuntime, index: usize, name: &mut [u8]) -> &[u8]
+    ensures { length result.now ≤ length name.old }
+{
     let mut size = argument(rt, index, name).len();
     for _ in 0..LINKS {
         let Some(after) = follow(rt, name, size) else {
@@ -78,7 +82,9 @@ fn random_bytes(rt: HostRuntime) -> [u8; 4] {
 }
 
 // Puts the name of a file in a folder, which no other process takes, into a buffer: empty if it does not fit.
-pub(crate) fn put_beside<'a>(rt: HostRuntime, folder: &[u8], name: &'a mut [u8]) -> &'a [u8] {
+pub(crate) fn put_beside<'a>(rt: HostRuntime, folder: &[u8], name: &'a mut [u8]) -> &'a [u8]
+    ensures { length result.now ≤ length name.old }
+{
     let mut out = Writer::new(name);
     out.put_text(folder);
     out.put_text(b".part-");
