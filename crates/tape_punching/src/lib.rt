@@ -30,9 +30,7 @@ fn sum_bytes(bytes: &[u8], sum: u16) -> u16
 fn put_bytes(out: &mut Writer, bytes: &[u8])
     ensures { Writes out.old (hexes bytes.now) out.new }
 {
-    for &byte in bytes {
-        out.put_hex2(byte);
-    }
+    out.put_hexes(bytes);
 }
 
 // The record of up to 255 bytes, and CR LF.

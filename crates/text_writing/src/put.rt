@@ -1,6 +1,7 @@
 // What a writer writes.
 ghost use Rattle.std.specs.Prelude.{◌≡◌, [], ◌∷◌, ◌<◌};
-ghost use Rattle.text_writing.specs.Written.{Writes};
+ghost use Rattle.std.specs.List.{flat_map};
+ghost use Rattle.text_writing.specs.Written.{Wrote, Writes};
 ghost use Rattle.text_writing.specs.Numerals.{digit as Numerals·digit, hex2, hex4, decimal, spaced};
 
 use crate::Writer;
@@ -13,6 +14,51 @@ fn digit(value: u8) -> u8
     ensures { result ≡ Numerals·digit value }
 {
     DIGITS[value as usize]
+}
+
+// What a writer does, on its buffer and its place by themselves, so that both are at hand while a text is written. Through a lent
+// Writer both would be looked up anew for each character, and a tape would take twice the time to punch.
+
+// One character at a place, and the place after it.
+fn byte_at(out: &mut [u8], at: usize, byte: u8) -> usize
+    ensures { Wrote out.old at (byte ∷ []) out.new result }
+{
+    if at < out.len() {
+        out[at] = byte;
+        at + 1
+    } else {
+        at.saturating_add(1)
+    }
+}
+
+// The characters of a text.
+fn text_at(out: &mut [u8], at: usize, text: &[u8]) -> usize
+    ensures { Wrote out.old at text.now out.new result }
+{
+    let mut next = at;
+    for &character in text {
+        next = byte_at(out, next, character);
+    }
+    next
+}
+
+// A byte as two capital hexadecimal digits.
+fn hex2_at(out: &mut [u8], at: usize, byte: u8) -> usize
+    ensures { Wrote out.old at (hex2 byte) out.new result }
+{
+    let next = byte_at(out, at, digit(byte / 16));
+    byte_at(out, next, digit(byte % 16))
+}
+
+// Bytes one after another.
+fn hexes_at(out: &mut [u8], at: usize, bytes: &[u8]) -> usize
+    ensures { Wrote out.old at (flat_map hex2 bytes.now) out.new result }
+{
+    let mut next = at;
+    for &byte in bytes {
+        next = hex2_at(out, next, byte);
+    }
+    next
 }
 
 impl<'a> Writer<'a> {
@@ -46,27 +92,28 @@ impl<'a> Writer<'a> {
     pub fn put_byte(&mut self, byte: u8)
         ensures { Writes self.old (byte ∷ []) self.new }
     {
-        if self.at < self.out.len() {
-            self.out[self.at] = byte;
-        }
-        self.at = self.at.saturating_add(1);
+        self.at = byte_at(self.out, self.at, byte);
     }
 
     // The characters of a text.
     pub fn put_text(&mut self, text: &[u8])
         ensures { Writes self.old text.now self.new }
     {
-        for &character in text {
-            self.put_byte(character);
-        }
+        self.at = text_at(self.out, self.at, text);
     }
 
     // A byte as two capital hexadecimal digits.
     pub fn put_hex2(&mut self, byte: u8)
         ensures { Writes self.old (hex2 byte) self.new }
     {
-        self.put_byte(digit(byte / 16));
-        self.put_byte(digit(byte % 16));
+        self.at = hex2_at(self.out, self.at, byte);
+    }
+
+    // Bytes one after another, two digits each.
+    pub fn put_hexes(&mut self, bytes: &[u8])
+        ensures { Writes self.old (flat_map hex2 bytes.now) self.new }
+    {
+        self.at = hexes_at(self.out, self.at, bytes);
     }
 
     // A word as four.

@@ -13,7 +13,7 @@ use Rattle.text_writing.specs.declared.Writer.{Writer}
 use Rattle.tape_loading.specs.declared.Reach.{Reach}
 use Rattle.tape_loading.specs.declared.Fault.{Fault}
 use Rattle.tape_loading.specs.Answers.{Verdict, verdict_of, verdict_in}
-use Rattle.tape_records.specs.Lemmas.Items.{never_good}
+use Rattle.text_writing.specs.Lemmas.Refusals.{never_good}
 use Rattle.tape_loading.specs.Inner.Formats.{contents_of}
 use Rattle.tape_moving.specs.Moving.{Outcome, with_text, found_in}
 use Rattle.tape_moving.specs.Inner.Lines.{text_from, moved}

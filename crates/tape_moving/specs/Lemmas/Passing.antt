@@ -14,7 +14,7 @@ use Rattle.tape_loading.specs.declared.Fault.{Fault}
 use Rattle.tape_loading.specs.Answers.{Verdict, verdict_of, verdict_in}
 use Rattle.tape_loading.specs.Inner.Formats.{item_of, contents_of}
 use Rattle.tape_loading.specs.Lemmas.Going.{Stops, Comes}
-use Rattle.tape_records.specs.Lemmas.Items.{never_good}
+use Rattle.text_writing.specs.Lemmas.Refusals.{never_good}
 use Rattle.tape_moving.specs.Inner.Lines.{record_in, text_from, line_of, sum_from}
 use Rattle.tape_moving.specs.Lemmas.Lines.{its_line, accepted_records}
 use Rattle.tape_moving.specs.Inner.Passing.{Passed}

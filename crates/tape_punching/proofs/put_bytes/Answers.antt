@@ -1,9 +1,6 @@
--- One more byte at each turn.
-use Rattle.std.proofs.Common.{add-one, arith}
-use Rattle.text_writing.specs.Lemmas.Writing.{after}
-use Rattle.tape_punching.specs.Lemmas.Punching.{hexes_more}
+-- The writer's words for the same digits.
+use Rattle.tape_punching.specs.Lemmas.Punching.{hexes_flat}
 use Rattle.tape_punching.proofs.put_bytes.Goals as goal
 
-pub loop-byte-preserved : goal.loop-byte-preserved
-loop-byte-preserved c =
-    rw (add-one c.loop-byte.byte-index, hexes_more c.args.bytes.now c.loop-byte.byte-index (omega arith)) (after c.loop-byte.invariant c.put_hex2.ensures)
+pub returns : goal.returns
+returns c = rw (hexes_flat c.args.bytes.now) c.put_hexes.ensures

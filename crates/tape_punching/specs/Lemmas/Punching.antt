@@ -1,6 +1,8 @@
 -- Laws of a punched tape, for the proofs of the code: `end` is the address after the stretch.
 use Rattle.std.specs.Prelude.{◌≡◌, ℕ, zero, suc, ◌+◌, ◌-◌, ◌*◌, ◌/◌, ◌%◌, ◌<◌, ◌≤◌, min, Bool, true, false, List, [], ◌∷◌, ◌++◌, length, take, drop, nat_lt, slice_index, refl}
-use Rattle.std.proofs.Common.{ap, ◌∙◌, add-zero, zero-add, suc-add, arith, length-append, length-take, drop_of_length-le, take_all, take_at, drop_at, take-suc, ltb-true, ltb-false}
+use Rattle.std.specs.List.{flat_map}
+use Rattle.std.proofs.lemmas.List.Concat.{flat_map-cons}
+use Rattle.std.proofs.Common.{ap, sym, ◌∙◌, add-zero, zero-add, suc-add, arith, length-append, length-take, drop_of_length-le, take_all, take_at, drop_at, take-suc, ltb-true, ltb-false}
 use Rattle.std.proofs.Math.Decide.{dec_lt}
 use Rattle.std.proofs.Math.Seq.{slice, take-nil, drop-nil}
 use Rattle.text_writing.specs.Numerals.{hex2}
@@ -12,13 +14,15 @@ use Rattle.tape_paper.specs.Grammar.{record_text, tape_text}
 use Rattle.tape_paper.specs.Lemmas.Lawful.{text_size}
 use Rattle.tape_punching.specs.Punching.{cut}
 
--- one byte more of those that are summed, and of those that are written
+-- one byte more of those that are summed
 module _ (bs : List ℕ) (i : ℕ) (h : i < length bs) where
   pub sum_more : (sum : ℕ) → (sum + total (take (suc i) bs)) % 65536 ≡ ((sum + total (take i bs)) % 65536 + slice_index bs i) % 65536
   sum_more sum = rw (take-suc bs i 0 h, total_append (take i bs) (slice_index bs i ∷ [])) (omega arith)
 
-  pub hexes_more : hexes (take (suc i) bs) ≡ hexes (take i bs) ++ hex2 (slice_index bs i)
-  hexes_more = ap hexes (take-suc bs i 0 h) ∙ hexes_append (take i bs) (slice_index bs i ∷ [])
+-- the digits of bytes, as a writer puts them
+pub hexes_flat : (bs : List ℕ) → hexes bs ≡ flat_map hex2 bs
+hexes_flat [] = refl
+hexes_flat (b ∷ bs) = ap (λ (t : List ℕ). hex2 b ++ t) (hexes_flat bs) ∙ sym (flat_map-cons hex2 b bs)
 
 -- bytes that stand in the record before are passed over
 skip : (at covered : ℕ) (bs : List ℕ) → cut at covered bs ≡ cut (at + covered) 0 (drop covered bs)
@@ -46,7 +50,7 @@ stretch_cut m first end h =
     take_drop first (end - first) m ∙ ap (λ (n : ℕ). drop first (take n m)) all
 
 -- The next record, and the tape after it.
-tape_more : (k at n : ℕ) (bs : List ℕ) → 0 < length bs → n ≡ min (length bs) 24
+pub tape_more : (k at n : ℕ) (bs : List ℕ) → 0 < length bs → n ≡ min (length bs) 24
     → tape_text k (cut at 0 bs) ≡ (record_text at (take n bs) ++ newline) ++ tape_text (k + 1) (cut (at + n) 0 (drop n bs))
 tape_more k at n bs some e = ap (tape_text k) (next_record_lem at bs some) ∙ by_test (nat_lt (length bs) 24) refl
   where

@@ -1,10 +1,6 @@
 -- Laws of Items.antt.
 use Rattle.std.specs.Prelude.{◌≡◌, ℕ, Bool, true, false, cond, List, length, refl, Some, None}
 use Rattle.std.proofs.Math.Option.{Option, none, some}
-use Rattle.laws.specs.declared.answers.Refusal.{Refusal}
-use Rattle.laws.specs.declared.answers.Refusal.TheVariants.{MemoryNotFull, NoCycleRoom, NotAnOpcode, BoundTooHigh, MalformedRecord, WrongSum, PastTheEnd, NoEnd, FirstAboveLast, NoRoom, MalformedEntry, StrayEntry, WouldRead, WouldStore, NotThere}
-use Rattle.laws.specs.Answers.{not_refused, answer_of}
-use Rattle.std.proofs.Common.{arith}
 use Rattle.tape_records.specs.declared.Parts.{Parts}
 use Rattle.tape_records.specs.Inner.Reading.{found, parts_of}
 use Rattle.tape_records.specs.Contents.{Stretch, Item, stretch, finish, bad}
@@ -50,21 +46,3 @@ module _ (i : Item) where
 pub told_cond : (b : Bool) (x y : Item) → told (cond b x y) ≡ cond b (told x) (told y)
 told_cond true x y = refl
 told_cond false x y = refl
-
--- No refusal has the answer 0.
-pub never_good : (r : Refusal) → answer_of r ≡ not_refused → ⊥
-never_good MemoryNotFull z = omega arith
-never_good NoCycleRoom z = omega arith
-never_good NotAnOpcode z = omega arith
-never_good BoundTooHigh z = omega arith
-never_good MalformedRecord z = omega arith
-never_good WrongSum z = omega arith
-never_good PastTheEnd z = omega arith
-never_good NoEnd z = omega arith
-never_good FirstAboveLast z = omega arith
-never_good NoRoom z = omega arith
-never_good MalformedEntry z = omega arith
-never_good StrayEntry z = omega arith
-never_good WouldRead z = omega arith
-never_good WouldStore z = omega arith
-never_good NotThere z = omega arith

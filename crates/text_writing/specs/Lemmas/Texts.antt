@@ -1,9 +1,11 @@
 -- Laws of written text and of numerals, for the proofs of the writers and of those who call them.
 use Rattle.std.specs.Prelude.{◌≡◌, refl, Bool, true, false, List, [], ◌∷◌, ◌++◌, ℕ, zero, suc, ◌+◌, ◌*◌, ◌/◌, ◌%◌, ◌≤◌, ◌<◌, ◌^◌, min, ltb, length, take, drop, set, get_or}
 use Rattle.std.proofs.Common.{sym, ◌∙◌, add-zero, add-suc, suc-add, add_assoc, pow-suc, add-one, arith, length-append, take-suc, take_all, lt-ltb, le-ltb, ltb-true, ltb-false}
+use Rattle.std.specs.List.{flat_map}
+use Rattle.std.proofs.lemmas.List.{flat_map_more}
 use Rattle.std.proofs.lemmas.List.Edits.{sets, sets-eq}
 use Rattle.std.proofs.Math.Seq.{length-sets, set_out, take-append_seam}
-use Rattle.text_writing.specs.Numerals.{digit, digits, decimal}
+use Rattle.text_writing.specs.Numerals.{digit, digits, decimal, hex2}
 use Rattle.text_writing.specs.Written.{most, Wrote}
 
 sets_sets : (l : List ℕ) (i : ℕ) (s t : List ℕ) → sets (sets l i s) (i + length s) t ≡ sets l i (s ++ t)
@@ -47,6 +49,10 @@ nothing {l} {n} f h = record { fits = f; bytes = refl; ends = omega arith }
 pub more : (t : List ℕ) (i : ℕ) {l m k : List ℕ} {at n j : ℕ} → i < length t
     → Wrote l at (take i t) m n → Wrote m n (get_or t i 0 ∷ []) k j → Wrote l at (take (i + 1) t) k j
 more t i h p q = rw (add-one i, take-suc t i 0 h) (then p q)
+
+-- One more byte of those that are written one by one.
+pub hexes_more : (bs : List ℕ) (i : ℕ) → i < length bs → flat_map hex2 (take (i + 1) bs) ≡ flat_map hex2 (take i bs) ++ hex2 (get_or bs i 0)
+hexes_more bs i h = rw (add-one i, take-suc bs i 0 h) (sym (flat_map_more hex2 [] (take i bs) (get_or bs i 0)))
 
 pub whole : (t : List ℕ) (i : ℕ) {l m : List ℕ} {at n : ℕ} → length t ≤ i → Wrote l at (take i t) m n → Wrote l at t m n
 whole t i h p = rw (take_all i t h) at p

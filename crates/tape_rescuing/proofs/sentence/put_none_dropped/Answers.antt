@@ -2,7 +2,7 @@
 use Rattle.std.proofs.Common.{Some, None, ne_eqb, arith}
 use Rattle.text_writing.specs.Lemmas.Writing.{after, ends_within}
 use Rattle.text_writing.specs.Written.{Writes}
-use Rattle.tape_records.specs.Lemmas.Items.{never_good}
+use Rattle.text_writing.specs.Lemmas.Refusals.{never_good}
 use Rattle.tape_rescuing.specs.Sentence.{read_answer, kept_sentence}
 use Rattle.tape_rescuing.specs.Lemmas.Lengths.{kept_length}
 use Rattle.tape_rescuing.proofs.sentence.put_none_dropped.Goals as goal
