@@ -107,6 +107,16 @@ fn close(part: Part) -> Result<(), Bad>
     Ok(())
 }
 
+// Makes the copy the image. Not by `copy_from_slice`: the archive for C would need the C library for it.
+fn copy_image(image: &[u8], copy: &mut [u8])
+    requires { length copy.old ≡ length image.now }
+    ensures { copy.new ≡ image.now }
+{
+    for at in 0..image.len() {
+        copy[at] = image[at];
+    }
+}
+
 // Checks a trace against an image. `copy` starts as the image and is left as the accepted entries leave it; only a memory that is
 // not full leaves it untouched.
 pub fn check_trace(image: &[u8], lines: &[u8], copy: &mut [u8]) -> Result<(), Bad>
@@ -116,6 +126,6 @@ pub fn check_trace(image: &[u8], lines: &[u8], copy: &mut [u8]) -> Result<(), Ba
         let refusal = Refusal::MemoryNotFull;
         return Err(Bad { refusal, line: 0 });
     }
-    copy.copy_from_slice(image);
+    copy_image(image, copy);
     close(check_part(None, lines, copy))
 }

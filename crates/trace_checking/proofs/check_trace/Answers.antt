@@ -15,4 +15,4 @@ returns-then-image-ne-FULL_MEMORY c =
 pub returns : goal.returns
 returns c =
     told c.close.ensures
-    (all_checked _ _ _ c.if-image-ne-FULL_MEMORY.false c.if-copy-ne-FULL_MEMORY.false c.copy_from_slice.ensures.after c.check_part.ensures.copy_after)
+    (all_checked _ _ _ c.if-image-ne-FULL_MEMORY.false c.if-copy-ne-FULL_MEMORY.false c.copy_image.ensures c.check_part.ensures.copy_after)
