@@ -1,8 +1,9 @@
 -- The instruction stands in a buffer of its own until the step is made.
 use Rattle.std.proofs.Common.{◌≡◌, length, ap, sym, ◌∙◌, arith, rules, length-take-le}
 use Rattle.manual.proofs.Lemmas.StepLaws.{step_whole}
+use Rattle.trace_text.specs.declared.View.TheVariants.{Steps}
 use Rattle.trace_steps.specs.Lemmas.Traces.{not_back, shown_as, in_buffer, inside_buffer}
-use Rattle.trace_steps.proofs.put_step.Goals as goal
+use Rattle.trace_steps.proofs.put_timed.Goals as goal
 
 pub returns-then-not-is_made-clause-gives : goal.returns-then-not-is_made-clause-gives
 returns-then-not-is_made-clause-gives c =
@@ -29,6 +30,6 @@ returns-clause-gives c =
 
 pub returns-clause-wrote : goal.returns-clause-wrote
 returns-clause-wrote c =
-    shown_as c.args.view c.args.memory.now c.args.machine c.single_step-stepped.result c.put_entry.ensures.wrote
+    shown_as Steps c.args.memory.now c.args.machine c.single_step-stepped.result c.put_entry.ensures.wrote
     (sym c.is_made.ensures ∙ c.if-not-is_made.false)
     (in_buffer c.args.memory.now c.args.machine.registers.counter (ap length c.new-listed.ensures.same_bytes) c.new-listed.ensures.begins c.put_instruction.ensures c.place-size.ensures (search rules))
