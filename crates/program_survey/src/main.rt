@@ -71,7 +71,8 @@ fn survey_argument(console: &mut Console, index: usize, tape: &mut [u8]) -> Done
     Done { size, status }
 }
 
-// Surveys one tape in a buffer of its own.
+// Surveys one tape in a buffer of its own. Not put into `main`, where wrong usage would need the room of two tapes too.
+#[inline(never)]
 fn survey_one(rt: HostRuntime, index: usize) -> u8 {
     let mut console = Console::new(rt);
     survey_argument(&mut console, index, &mut tape_buffer()).status
