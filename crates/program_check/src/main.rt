@@ -23,6 +23,7 @@ ghost use Rattle.console.specs.Failing.{FailureStays};
 ghost use Rattle.text_writing.specs.Delivered.{answer_in};
 ghost use Rattle.program_check.specs.Concluded.{Concludes, Notes};
 ghost use Rattle.trace_line.specs.Lines.{longest_line};
+ghost use Rattle.manual.specs.Stepping.{full_memory};
 
 use console::{Console, Done, argument_count, argument_is, hand_over, names_from, refuse};
 use console_ending::say_refused;
@@ -106,8 +107,10 @@ fn show_bad(console: &mut Console, index: usize, refusal: Refusal, found: Found,
     }
 }
 
-// Why a log is not accepted, if it is not: one without an entry is malformed too.
-fn refusal_of(found: Found) -> Option<Refusal> {
+// Why a log is not accepted, if it is not: one without an entry is malformed too. So what is said and the status agree.
+fn refusal_of(found: Found) -> Option<Refusal>
+    ensures { answer_in result ≡ log_status full_memory (answer_in found.refusal) found.lines }
+{
     if found.lines == 0 && found.refusal.is_none() {
         return Some(Refusal::MalformedEntry);
     }
