@@ -1,9 +1,14 @@
 -- One digit more at each turn.
-use Rattle.std.proofs.Common.{◌∙◌, arith}
+use Rattle.std.specs.Prelude.{ℕ}
+use Rattle.std.proofs.Common.{◌∙◌, ap, arith}
+use Rattle.text_reading.specs.declared.Reading.{Reading}
 use Rattle.text_reading.specs.Numbers.{count_at}
 use Rattle.text_reading.specs.Lemmas.Found.{gone, none, got, somewhere, some, lost_count_after}
 use Rattle.text_reading.specs.Lemmas.Counting.{count_full, count_end, count_over, count_more}
 use Rattle.text_reading.proofs.read_count.Goals as goal
+
+abbrev next_of : Reading ℕ → ℕ
+next_of r = r.next
 
 pub returns-in_err-first : goal.returns-in_err-first
 returns-in_err-first c =
@@ -16,12 +21,12 @@ loop-init c = (rw (got _ c.in_ok-first.ensures), λ z. somewhere _ c.in_ok-first
 pub returns-in_err-checked_mul : goal.returns-in_err-checked_mul
 returns-in_err-checked_mul c =
     rw (c.from_residual-in_err-checked_mul.ensures, c.loop.invariant.0)
-    (none _ (count_over _ _ _ c.in-Some.ensures _ (omega arith) (λ h. c.in_err-checked_mul.ensures (omega arith))))
+    (none _ (ap next_of (count_over _ _ _ c.in-Some.ensures _ (omega arith) (λ h. c.in_err-checked_mul.ensures (omega arith)))))
 
 pub returns-in_err-value : goal.returns-in_err-value
 returns-in_err-value c =
     rw (c.from_residual-in_err-value.ensures, c.loop.invariant.0)
-    (none _ (count_over _ _ _ c.in-Some.ensures _ (omega arith) (λ h. c.in_err-value.ensures (omega arith))))
+    (none _ (ap next_of (count_over _ _ _ c.in-Some.ensures _ (omega arith) (λ h. c.in_err-value.ensures (omega arith)))))
 
 pub loop-preserved : goal.loop-preserved
 loop-preserved c = (

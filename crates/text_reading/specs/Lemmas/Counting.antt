@@ -26,7 +26,7 @@ module _ (s : List ℕ) (at v : ℕ) where
     there : d.next ≡ nowhere → ⊥
     there z = somewhere _ e (rw (got _ e) z)
 
-    pub count_over : (n : ℕ) → 0 < n → (v * 10 + d.value < 18446744073709551616 → ⊥) → (count_from n s at v).next ≡ nowhere
+    pub count_over : (n : ℕ) → 0 < n → (v * 10 + d.value < 18446744073709551616 → ⊥) → count_from n s at v ≡ record { value = 0; next = nowhere }
     unfolding count_from
     count_over zero h q = absurd (not-suc-le-zero h)
     count_over (suc n) h q =

@@ -7,14 +7,14 @@ use Rattle.text_reading.specs.Numbers.{digit_value}
 use Rattle.text_reading.specs.Inner.Characters.{digit_found}
 
 -- the same by ranges, as the code tests them
-abbrev value_by_range : ℕ → ℕ
+abbrev pub value_by_range : ℕ → ℕ
 value_by_range b =
     cond (ltb b 48) 16
     (cond (leb b 57) (b - 48)
     (cond (ltb b 65) 16
     (cond (leb b 70) (b - 65 + 10) 16)))
 
-by_range : (b : ℕ) → b < 256 → digit_value b ≡ value_by_range b
+pub by_range : (b : ℕ) → b < 256 → digit_value b ≡ value_by_range b
 unfolding digit_value
 by_range = agree digit_value value_by_range 256 refl
 
